@@ -1,0 +1,56 @@
+-- The laws of `keep` and `Each`.
+use mathlib.Core.Path.{_≡_, refl, sym, ap, _∙_}
+use mathlib.Core.Bool.{Bool, true, false, cond, false≢true}
+use mathlib.Core.List.{List, [], _∷_, _++_, List·Memᴰ, List·Memᴰ·head, List·Memᴰ·tail, List·Memᴰ·not-nil, List·Memᴰ·cases-cons}
+use mathlib.Core.Logic.{_⊎_, inl, inr}
+use Rattle.lists.specs.Lists.{keep, Each}
+
+module _ {A : Type 0} where
+  pub keep-yes : (p : A → Bool) (x : A) (xs : List A) → p x ≡ true → keep p (x ∷ xs) ≡ x ∷ keep p xs
+  unfolding keep
+  keep-yes p x xs h = rw h
+
+  pub keep-no : (p : A → Bool) (x : A) (xs : List A) → p x ≡ false → keep p (x ∷ xs) ≡ keep p xs
+  unfolding keep
+  keep-no p x xs h = rw h
+
+  -- the same head, and tails of which the same is kept
+  pub keep-cong : (p : A → Bool) (x : A) (xs ys : List A) → keep p xs ≡ keep p ys → keep p (x ∷ xs) ≡ keep p (x ∷ ys)
+  unfolding keep
+  keep-cong p x xs ys h = ap (λ (l : List A). cond (p x) (x ∷ l) l) h
+
+  pub each-map : (P Q : A → Type 0) (xs : List A) → ((x : A) → P x → Q x) → Each P xs → Each Q xs
+  each-map P Q [] f h = tt
+  each-map P Q (x ∷ xs) f h = (f x (h .0), each-map P Q xs f (h .1))
+
+  pub each-append : (P : A → Type 0) (xs ys : List A) → Each P (xs ++ ys) → Each P xs × Each P ys
+  each-append P [] ys h = (tt, h)
+  each-append P (x ∷ xs) ys h = let r = each-append P xs ys (h .1) in ((h .0, r .0), r .1)
+
+  pub each-of : (P : A → Type 0) (xs : List A) → ((x : A) → List·Memᴰ x xs → P x) → Each P xs
+  each-of P [] f = tt
+  each-of P (x ∷ xs) f = (f x (List·Memᴰ·head refl), each-of P xs (λ y m. f y (List·Memᴰ·tail m)))
+
+  pub mem-keep : (p : A → Bool) (x : A) (xs : List A) → p x ≡ true → List·Memᴰ x xs → List·Memᴰ x (keep p xs)
+  unfolding keep
+  mem-keep p x [] h m = absurd (List·Memᴰ·not-nil m)
+  mem-keep p x (y ∷ ys) h m = go (p y) refl (List·Memᴰ·cases-cons m) (mem-keep p x ys h)
+    where
+      go : (b : Bool) → p y ≡ b → (x ≡ y) ⊎ List·Memᴰ x ys → (List·Memᴰ x ys → List·Memᴰ x (keep p ys)) → List·Memᴰ x (cond b (y ∷ keep p ys) (keep p ys))
+      go true e (inl q) ih = List·Memᴰ·head q
+      go true e (inr n) ih = List·Memᴰ·tail (ih n)
+      go false e (inl q) ih = absurd (false≢true (sym e ∙ ap p (sym q) ∙ h))
+      go false e (inr n) ih = ih n
+
+  pub keep-mem : (p : A → Bool) (x : A) (xs : List A) → List·Memᴰ x (keep p xs) → List·Memᴰ x xs
+  unfolding keep
+  keep-mem p x [] m = m
+  keep-mem p x (y ∷ ys) m = go (p y) m (keep-mem p x ys)
+    where
+      go : (b : Bool) → List·Memᴰ x (cond b (y ∷ keep p ys) (keep p ys)) → (List·Memᴰ x (keep p ys) → List·Memᴰ x ys) → List·Memᴰ x (y ∷ ys)
+      go true n ih = first (List·Memᴰ·cases-cons n)
+        where
+          first : (x ≡ y) ⊎ List·Memᴰ x (keep p ys) → List·Memᴰ x (y ∷ ys)
+          first (inl q) = List·Memᴰ·head q
+          first (inr k) = List·Memᴰ·tail (ih k)
+      go false n ih = List·Memᴰ·tail (ih n)

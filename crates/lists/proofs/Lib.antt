@@ -1,0 +1,11 @@
+pub mod Ascending
+pub mod ByteOrder
+pub mod Compacting
+pub mod Elements
+pub mod Keeping
+pub mod Parts
+pub mod Pasting
+pub mod Searching
+pub mod Shifting
+pub mod Turns
+pub mod Writing

@@ -1,0 +1,55 @@
+use Prim.Native.Nat.{_-_, _≤_}
+use native.Mathlib.Omega.{arith}
+use mathlib.Core.Path.{_≡_, refl, sym, _∙_}
+use lib.ListN.{length, drop}
+use borrow.Author.Tests.{eq-eqb, ne-eqb}
+use Rattle.lists.specs.Lists.{isIn}
+use Rattle.lists.proofs.Turns.{in-turn, in-none}
+use borrow.Author.Needs.{needs}
+use Rattle.lists.proofs.is_in.Statement.{statement}
+use Rattle.lists.proofs.is_in.Tie as tie
+
+abbrev Inv-loop : tie.InvT-loop
+Inv-loop n list i₀ i = (i ≤ length list) × (isIn n list ≡ isIn n (drop i list))
+
+abbrev μ-loop : tie.MeasureT-loop
+μ-loop n list i₀ i = length list - i
+
+loop-holds : tie.Need-loop-holds Inv-loop μ-loop
+loop-holds c = (search needs, refl)
+
+mul-if1 : tie.Need-mul-if1 Inv-loop μ-loop
+mul-if1 c = search needs
+
+shared-slice-read-if1 : tie.Need-shared-slice-read-if1 Inv-loop μ-loop
+shared-slice-read-if1 c = search needs
+
+returns : tie.Need-returns Inv-loop μ-loop
+returns c = sym ((c .before .before .before) .loop .inv .1 ∙ in-turn ((c .before .before .before .before) .args .n) ((c .before .before .before .before) .args .list .now) ((c .before .before .before) .loop .i) (omega arith) ∙ simp (eq-eqb _ _ (c .if1 .taken)))
+
+add-i : tie.Need-add-i Inv-loop μ-loop
+add-i c = search needs
+
+loop-less : tie.Need-loop-less Inv-loop μ-loop
+loop-less c = search needs
+
+loop-again : tie.Need-loop-again Inv-loop μ-loop
+loop-again c = (search needs, (c .before .before .before) .loop .inv .1 ∙ in-turn ((c .before .before .before .before) .args .n) ((c .before .before .before .before) .args .list .now) ((c .before .before .before) .loop .i) (omega arith) ∙ simp (ne-eqb _ _ (c .if1 .left)))
+
+returns-2 : tie.Need-returns-2 Inv-loop μ-loop
+returns-2 c = sym ((c .before) .loop .inv .1 ∙ in-none ((c .before .before) .args .n) ((c .before .before) .args .list .now) ((c .before) .loop .i) (omega arith))
+
+pub is-in-spec : {M : Type 1} → statement M
+is-in-spec =
+    tie.close
+    (tie.spec
+    Inv-loop
+    μ-loop
+    loop-holds
+    mul-if1
+    shared-slice-read-if1
+    returns
+    add-i
+    loop-less
+    loop-again
+    returns-2)

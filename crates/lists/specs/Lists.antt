@@ -1,0 +1,39 @@
+-- Lists: what passes a test, what holds of every element, and a list written to the front of a slice.
+use Prim.Native.Nat.{ℕ}
+use mathlib.Core.Bool.{Bool, true, false, _||_, cond}
+use mathlib.Core.List.{List, [], _∷_, _++_}
+use lib.Dec.{eqb}
+use lib.ListN.{length, take, drop}
+
+module _ {A : Type 0} where
+  -- the elements that pass a test, in their order
+  unfoldable pub keep : (A → Bool) → List A → List A
+  keep p [] = []
+  keep p (x ∷ xs) = cond (p x) (x ∷ keep p xs) (keep p xs)
+
+  unfoldable pub isEmpty : List A → Bool
+  isEmpty [] = true
+  isEmpty (x ∷ xs) = false
+
+  -- every element satisfies P
+  abbrev pub Each : (A → Type 0) → List A → Type 0
+  Each P [] = Unit {0}
+  Each P (x ∷ xs) = P x × Each P xs
+
+-- what each element comes to, one after another
+unfoldable pub collect : {A B : Type 0} → (A → List B) → List A → List B
+collect f [] = []
+collect f (x ∷ xs) = f x ++ collect f xs
+
+-- a slice with the list at its front; what lies past it stays
+abbrev pub written : List ℕ → List ℕ → List ℕ
+written l slice = l ++ drop (length l) slice
+
+-- a slice with the list from a place on; what lies before and past it stays
+abbrev pub writtenAt : ℕ → List ℕ → List ℕ → List ℕ
+writtenAt at l slice = take at slice ++ written l (drop at slice)
+
+-- whether a number is in the list
+unfoldable pub isIn : ℕ → List ℕ → Bool
+isIn n [] = false
+isIn n (m ∷ ms) = eqb m n || isIn n ms
