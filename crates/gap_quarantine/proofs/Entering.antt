@@ -1,0 +1,117 @@
+-- What entering the tentative state makes of the store, from what its parts say.
+use Prim.Native.Nat.{ℕ, zero, suc, _≤_, _<_, min}
+use native.Mathlib.Omega.{arith}
+use mathlib.Core.Path.{_≡_, refl, sym, ap, _∙_}
+use mathlib.Core.Bool.{Bool, true, false, _&&_, _||_, cond}
+use mathlib.Core.List.{List, [], _∷_, map}
+use lib.ListN.{length, take, getD, set, length-take, length-set}
+use lib.Seq.{take-set-lt, getD-take}
+use Rattle.lists.specs.Bytes.{Bytes, eqBytes}
+use Rattle.lists.specs.Search.{firstAt}
+use Rattle.lists.proofs.Compacting.{clamp}
+use Rattle.gap_quarantine.specs.Frames.{Consumed, Entry}
+use Rattle.gap_quarantine.specs.Store.{isTracked, enters, enterWith, enterFirst, anyEnters, dropGuard, enterTentative, effect, inputRefusal, roomRefusal, refusal, orElse, unless, step}
+use Rattle.gap_quarantine.specs.Answers.{said, numbersOf, bytesOf}
+use Rattle.gap_quarantine.specs.View.{entryOf, entriesSeen, guardsSeen}
+use Rattle.gap_quarantine.specs.Contracts.{Performs}
+use Rattle.gap_quarantine.specs.LiveGuards.{liveOf, slotOf, dropped}
+use Rattle.gap_quarantine.specs.Holding.{entersSeen}
+use Rattle.gap_quarantine.specs.declared.Entry as coded
+use Rattle.gap_quarantine.specs.declared.NonceConsumed.{NonceConsumed}
+use Rattle.gap_quarantine.specs.declared.FrameState.the-variants.{Tracked, Tentative}
+use Rattle.gap_quarantine.specs.declared.Guards.{Guards}
+use Rattle.gap_quarantine.specs.declared.Quarantine.{Quarantine}
+use Rattle.gap_quarantine.specs.declared.Answer.the-variants.{Entered}
+use Rattle.gap_quarantine.specs.declared.rescue.Slot.{Slot}
+use Rattle.gap_quarantine.proofs.LiveGuards.{all-live, all-matched, dropped-live}
+
+-- ---- the test of an entry
+
+and-false : (b : Bool) → false ≡ (b && false)
+and-false true = refl
+and-false false = refl
+
+and-true : (b : Bool) → b ≡ (b && true)
+and-true true = refl
+and-true false = refl
+
+pub enters-tentative : (h : Bytes) (e : coded.Entry) (c : NonceConsumed) → e .state ≡ Tentative c → false ≡ enters h (entryOf e)
+unfolding enters isTracked
+enters-tentative h e c s = rw s (and-false (eqBytes (e .frame .hash) h))
+
+pub enters-tracked : (h : Bytes) (e : coded.Entry) → e .state ≡ Tracked → eqBytes (e .frame .hash) h ≡ enters h (entryOf e)
+unfolding enters isTracked
+enters-tracked h e s = rw s (and-true (eqBytes (e .frame .hash) h))
+
+-- ---- where the search stops
+
+module _ (h : Bytes) (c : Consumed) where
+  pub none-enters : (l : List coded.Entry) → length l ≤ firstAt (entersSeen h) l →
+      (enterFirst h c (map entryOf l) ≡ map entryOf l) × (anyEnters h (map entryOf l) ≡ false)
+  unfolding firstAt enterFirst anyEnters
+  none-enters [] b = (refl, refl)
+  none-enters (x ∷ xs) b = go (entersSeen h x) b (none-enters xs)
+    where
+      go : (t : Bool) → suc (length xs) ≤ cond t zero (suc (firstAt (entersSeen h) xs)) →
+          (length xs ≤ firstAt (entersSeen h) xs → (enterFirst h c (map entryOf xs) ≡ map entryOf xs) × (anyEnters h (map entryOf xs) ≡ false)) →
+          (cond t (enterWith c (entryOf x) ∷ map entryOf xs) (entryOf x ∷ enterFirst h c (map entryOf xs)) ≡ entryOf x ∷ map entryOf xs) × ((t || anyEnters h (map entryOf xs)) ≡ false)
+      go true b ih = absurd (omega arith)
+      go false b ih = let r = ih (omega arith) in (ap {B = List Entry} (λ l. entryOf x ∷ l) (r .0), r .1)
+
+  pub first-enters : (l : List coded.Entry) (d f : coded.Entry) → firstAt (entersSeen h) l < length l →
+      entryOf f ≡ enterWith c (entryOf (getD l (firstAt (entersSeen h) l) d)) →
+      (enterFirst h c (map entryOf l) ≡ map entryOf (set l (firstAt (entersSeen h) l) f)) × (anyEnters h (map entryOf l) ≡ true)
+  unfolding firstAt enterFirst anyEnters
+  first-enters [] d f b e = absurd (omega arith)
+  first-enters (x ∷ xs) d f b e = go (entersSeen h x) b e (first-enters xs d f)
+    where
+      go : (t : Bool) → cond t zero (suc (firstAt (entersSeen h) xs)) < suc (length xs) →
+          entryOf f ≡ enterWith c (entryOf (getD (x ∷ xs) (cond t zero (suc (firstAt (entersSeen h) xs))) d)) →
+          (firstAt (entersSeen h) xs < length xs → entryOf f ≡ enterWith c (entryOf (getD xs (firstAt (entersSeen h) xs) d)) →
+          (enterFirst h c (map entryOf xs) ≡ map entryOf (set xs (firstAt (entersSeen h) xs) f)) × (anyEnters h (map entryOf xs) ≡ true)) →
+          (cond t (enterWith c (entryOf x) ∷ map entryOf xs) (entryOf x ∷ enterFirst h c (map entryOf xs)) ≡ map entryOf (set (x ∷ xs) (cond t zero (suc (firstAt (entersSeen h) xs))) f))
+          × ((t || anyEnters h (map entryOf xs)) ≡ true)
+      go true b e ih = (ap {B = List Entry} (λ y. y ∷ map entryOf xs) (sym e), refl)
+      go false b e ih = let r = ih (omega arith) e in (ap {B = List Entry} (λ l. entryOf x ∷ l) (r .0), r .1)
+
+-- ---- the call
+
+module _ (q : Quarantine) (h : Bytes) (c : Consumed) (len k : ℕ) (whole : length (q .pending .entries) ≡ 64) (is : len ≡ min (q .pending .len) 64)
+    (found : k ≡ firstAt (entersSeen h) (take len (q .pending .entries))) where
+  all-seen : take len (q .pending .entries) ≡ take (q .pending .len) (q .pending .entries)
+  all-seen = rw is (clamp (q .pending .len) 64 (q .pending .entries) whole)
+
+  sized : length (take len (q .pending .entries)) ≡ len
+  sized = simp length-take (omega arith)
+
+  pub absent : len ≤ k → Performs q (enterTentative h c) [] [] (record { answer = Entered false; store = q }) [] []
+  unfolding step refusal inputRefusal roomRefusal orElse unless effect said numbersOf bytesOf
+  absent b =
+      let n = none-enters h c (take len (q .pending .entries)) (omega (arith, found, sized)) in
+      let m = rw all-seen at n in
+      record { store = rw (m .0, m .1); answer = rw (m .1); numbersAfter = refl; bytesAfter = refl; kept = λ x e. refl }
+
+  pub present : (d f : coded.Entry) (slots : List Slot) (live : Guards) → k < len → entryOf f ≡ enterWith c (entryOf (getD (q .pending .entries) k d)) →
+      slots ≡ map (dropped h) (map slotOf (q .«repark_guard» .guards)) →
+      guardsSeen live ≡ liveOf (take (q .«repark_guard» .len) slots) (q .«repark_guard» .guards) →
+      Performs q (enterTentative h c) [] []
+      (record { answer = Entered true; store = record { pending = record { entries = set (q .pending .entries) k f; len = q .pending .len }; «repark_guard» = live } }) [] []
+  unfolding step refusal inputRefusal roomRefusal orElse unless effect said numbersOf bytesOf
+  present d f slots live b made drops kept =
+      let es : List coded.Entry = q .pending .entries in
+      let at : entryOf f ≡ enterWith c (entryOf (getD (take len es) (firstAt (entersSeen h) (take len es)) d)) =
+      rw (← found, getD-take len es k d b) made in
+      let n = first-enters h c (take len es) d f (omega (arith, found, sized)) at in
+      let m = rw (← found) at n in
+      let same : length (set es k f) ≡ 64 = length-set es k f ∙ whole in
+      let part : take (q .pending .len) (set es k f) ≡ set (take len es) k f =
+      sym (clamp (q .pending .len) 64 (set es k f) same) ∙ rw (← is) (take-set-lt len es k f b) in
+      let gone : guardsSeen live ≡ dropGuard h (guardsSeen (q .«repark_guard»)) =
+      kept ∙ rw (drops, ← dropped-live h (q .«repark_guard» .len) (map slotOf (q .«repark_guard» .guards)) (q .«repark_guard» .guards) (all-matched (q .«repark_guard» .guards)), all-live (q .«repark_guard» .len) (q .«repark_guard» .guards)) in
+      record {
+        store = rw (part, gone, ← all-seen, m .0, m .1);
+        answer = rw (← all-seen, m .1);
+        numbersAfter = refl;
+        bytesAfter = refl;
+        kept = λ x e. cc;
+      }

@@ -1,0 +1,17 @@
+pub mod Deciding
+pub mod Gathering
+pub mod LiveGuards
+pub mod LookingUp
+pub mod Matching
+pub mod Passing
+pub mod PollSteps
+pub mod PollTurns
+pub mod Placing
+pub mod Pushing
+pub mod Reporting
+pub mod Sweeping
+pub mod Visits
+pub mod Listed
+pub mod Calls
+pub mod Entering
+pub mod GuardCall

@@ -1,0 +1,12 @@
+use mathlib.Core.Path.{refl}
+use Rattle.gap_quarantine.specs.Store.{fresh}
+use borrow.Author.Needs.{needs}
+use Rattle.gap_quarantine.proofs.holding.tracked.Statement.{statement}
+use Rattle.gap_quarantine.proofs.holding.tracked.Tie as tie
+
+returns : tie.Need-returns
+unfolding fresh
+returns c = refl
+
+pub tracked-spec : {M : Type 1} → statement M
+tracked-spec = tie.close (tie.spec returns)

@@ -1,0 +1,19 @@
+use borrow.Author.Tests.{lt-ltb, le-ltb}
+use borrow.Author.Needs.{needs}
+use Rattle.gap_quarantine.proofs.listing.lacks_room.Statement.{statement}
+use Rattle.gap_quarantine.proofs.listing.lacks_room.Tie as tie
+
+mul-if1 : tie.Need-mul-if1
+mul-if1 c = search needs
+
+returns : tie.Need-returns
+returns c = rw (lt-ltb _ _ (c .if1 .taken))
+
+mul-result : tie.Need-mul-result
+mul-result c = search needs
+
+returns-2 : tie.Need-returns-2
+returns-2 c = rw (le-ltb _ _ (c .if1 .left))
+
+pub lacks-room-spec : {M : Type 1} → statement M
+lacks-room-spec = tie.close (tie.spec mul-if1 returns mul-result returns-2)

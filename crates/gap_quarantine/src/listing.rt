@@ -1,0 +1,115 @@
+// What the calls list, written to the front of a lent slice; what lies past it stays.
+ghost use mathlib.Core.Path.{_≡_};
+ghost use mathlib.Core.Bool.{_||_};
+ghost use mathlib.Core.List.{map};
+ghost use lib.Dec.{ltb};
+ghost use Prim.Native.Nat.{_+_, _*_, _≤_};
+ghost use lib.ListN.{length, take};
+ghost use Rattle.lists.specs.Bytes.{Bytes};
+ghost use Rattle.lists.specs.Lists.{collect, written};
+ghost use Rattle.gap_quarantine.specs.Answers.{ticketNumbers, deadNumbers, deadBytes, takerNumber, takerHash};
+ghost use Rattle.gap_quarantine.specs.View.{consumedOf, frameOf};
+ghost use Rattle.gap_quarantine.specs.Passes.{deadOf};
+ghost use Rattle.gap_quarantine.specs.Listing.{Puts};
+use super::NonceConsumed;
+use super::ParkedFrame;
+use super::passes::DeadFrame;
+use super::passes::block_of;
+
+// A hash, to its place in the slice.
+pub(crate) fn put_hash(out: &mut [u8], at: usize, hash: [u8; 32])
+    requires { ⌜ at + 32 ≤ length (now out) ⌝ }
+    ensures { λ _. ⌜ Puts at hash (now (out .entry)) 32 (now (out .exit)) ⌝ }
+{
+    let mut j: usize = 0;
+    while j < 32 {
+        let b = hash[j];
+        out[at + j] = b;
+        j += 1;
+    }
+}
+
+// The tickets of n frames.
+pub(crate) fn write_tickets(frames: [ParkedFrame; 64], n: usize, out: &mut [u64])
+    requires { ⌜ (n ≤ 64) × (n ≤ length (now out)) ⌝ }
+    ensures { λ _. ⌜ now (out .exit) ≡ written (collect ticketNumbers (map frameOf (take n frames))) (now (out .entry)) ⌝ }
+{
+    let mut i: usize = 0;
+    while i < n {
+        let frame = frames[i];
+        out[i] = frame.ticket;
+        i += 1;
+    }
+}
+
+// Document 01's number of a consumption's kind.
+fn kind_of(c: NonceConsumed) -> u64
+    ensures { λ r. ⌜ ((hash taker : Bytes) → r ≡ takerNumber (consumedOf c hash taker .taker)) ⌝ }
+{
+    match c {
+        NonceConsumed::MinedAt(_) => 1,
+        NonceConsumed::SlotTakenAt(_) => 2,
+        NonceConsumed::SlotTakenBy(_) => 3,
+    }
+}
+
+// The taker's hash, or zeros where it is not known.
+fn taker_of(c: NonceConsumed, taker: [u8; 32]) -> [u8; 32]
+    ensures { λ r. ⌜ ((hash : Bytes) → r ≡ takerHash (consumedOf c hash taker .taker)) ⌝ }
+{
+    match c {
+        NonceConsumed::MinedAt(_) => [0u8; 32],
+        NonceConsumed::SlotTakenAt(_) => [0u8; 32],
+        NonceConsumed::SlotTakenBy(_) => taker,
+    }
+}
+
+// Whether slices of these lengths are too short for so many dead frames.
+pub(crate) fn lacks_room(numbers: usize, bytes: usize, count: usize) -> bool
+    requires { ⌜ count ≤ 64 ⌝ }
+    ensures { λ r. ⌜ r ≡ (ltb numbers (3 * count) || ltb bytes (64 * count)) ⌝ }
+{
+    if numbers < 3 * count {
+        return true;
+    }
+    bytes < 64 * count
+}
+
+// The numbers of n dead frames: ticket, block and kind of each.
+pub(crate) fn write_dead(dead: [DeadFrame; 64], n: usize, out: &mut [u64])
+    requires { ⌜ (n ≤ 64) × (3 * n ≤ length (now out)) ⌝ }
+    ensures { λ _. ⌜ now (out .exit) ≡ written (collect deadNumbers (map deadOf (take n dead))) (now (out .entry)) ⌝ }
+{
+    let mut i: usize = 0;
+    while i < n {
+        let d = dead[i];
+        let frame = d.frame;
+        let consumed = d.consumed;
+        let at = 3 * i;
+        let block = block_of(consumed);
+        let kind = kind_of(consumed);
+        out[at] = frame.ticket;
+        out[at + 1] = block;
+        out[at + 2] = kind;
+        i += 1;
+    }
+}
+
+// The bytes of n dead frames: block hash, and taker or zeros.
+pub(crate) fn write_hashes(dead: [DeadFrame; 64], n: usize, out: &mut [u8])
+    requires { ⌜ (n ≤ 64) × (64 * n ≤ length (now out)) ⌝ }
+    ensures { λ _. ⌜ now (out .exit) ≡ written (collect deadBytes (map deadOf (take n dead))) (now (out .entry)) ⌝ }
+{
+    let mut i: usize = 0;
+    while i < n {
+        let d = dead[i];
+        let consumed = d.consumed;
+        let block_hash = d.block_hash;
+        let taker = d.taker;
+        let at = 64 * i;
+        let shown = taker_of(consumed, taker);
+        put_hash(&mut *out, at, block_hash);
+        put_hash(&mut *out, at + 32, shown);
+        i += 1;
+    }
+}
