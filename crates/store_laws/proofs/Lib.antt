@@ -1,0 +1,6 @@
+pub mod Pairs
+pub mod Refusals
+pub mod Gaps
+pub mod Reachable
+pub mod Placing
+pub mod Listings

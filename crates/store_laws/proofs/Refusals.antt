@@ -1,0 +1,81 @@
+-- The claims of `specs.Refusals`.
+use Prim.Native.Nat.{ℕ}
+use mathlib.Core.Path.{_≡_, refl, sym, subst}
+use mathlib.Core.Bool.{Bool, true, false}
+use mathlib.Core.List.{List, [], _∷_}
+use mathlib.Core.Option.{Option, none, some, Option·some-injective, Option·none-ne-some}
+use Rattle.lists.specs.Lists.{isIn}
+use Rattle.lists.proofs.ByteOrder.{clash}
+use Rattle.gap_quarantine.specs.Store.{Store, Call, push, poll, guard, enterTentative, checkReorg, checkFinalized, evictSender, when, orElse, inputRefusal, roomRefusal, refusal, unless, step}
+use Rattle.gap_quarantine.specs.Reading.{blocksRefusal, sendersRefusal, gapRefusal}
+use Rattle.store_laws.specs.Refusals.{placeNumbers, RefusedByPlace, RefusedByInputs, ReadingRefused, RefusedChangesNothing}
+
+-- a refusal, if there is one, is among these numbers
+abbrev Among : List ℕ → Option ℕ → Type 0
+Among ns none = Unit {0}
+Among ns (some n) = isIn n ns ≡ true
+
+module _ (ns : List ℕ) where
+  among-when : (b : Bool) (n : ℕ) → isIn n ns ≡ true → Among ns (when b n)
+  unfolding when
+  among-when true n h = h
+  among-when false n h = tt
+
+  among-orElse : (o p : Option ℕ) → Among ns o → Among ns p → Among ns (orElse o p)
+  unfolding orElse
+  among-orElse (some n) p h k = h
+  among-orElse none p h k = k
+
+input-among : (c : Call) → Among (placeNumbers c) (inputRefusal c)
+unfolding inputRefusal placeNumbers isIn
+input-among (push f) = among-when _ _ 1 refl
+input-among (poll a head known content) = among-orElse _ _ _ (among-when _ _ 3 refl) (among-when _ _ 4 refl)
+input-among (guard g) = among-orElse _ _ _ (among-when _ _ 6 refl) (among-when _ _ 7 refl)
+input-among (enterTentative h c) = tt
+input-among (checkReorg b canonical) = tt
+input-among (checkFinalized n) = tt
+input-among (evictSender a) = tt
+
+-- the refusals about room are 2, 5 and 8
+aboutRoom : List ℕ
+aboutRoom = 2 ∷ 5 ∷ 8 ∷ []
+
+room-among : (s : Store) (c : Call) (numbers bytes : ℕ) → Among (placeNumbers c) (roomRefusal s c numbers bytes) × Among aboutRoom (roomRefusal s c numbers bytes)
+unfolding roomRefusal placeNumbers isIn aboutRoom
+room-among s (push f) numbers bytes = (among-when _ _ 2 refl, among-when _ _ 2 refl)
+room-among s (poll a head known content) numbers bytes = (among-when _ _ 5 refl, among-when _ _ 5 refl)
+room-among s (guard g) numbers bytes = (among-when _ _ 8 refl, among-when _ _ 8 refl)
+room-among s (enterTentative h c) numbers bytes = (tt, tt)
+room-among s (checkReorg b canonical) numbers bytes = (among-when _ _ 5 refl, among-when _ _ 5 refl)
+room-among s (checkFinalized n) numbers bytes = (among-when _ _ 5 refl, among-when _ _ 5 refl)
+room-among s (evictSender a) numbers bytes = (among-when _ _ 5 refl, among-when _ _ 5 refl)
+
+pub refused-by-place : RefusedByPlace
+unfolding refusal
+refused-by-place s q n e =
+    subst (Among (placeNumbers (q .call))) e (among-orElse _ _ _ (input-among (q .call)) (room-among s (q .call) (q .numbers) (q .bytes) .0))
+
+pub refused-by-inputs : RefusedByInputs
+unfolding refusal orElse aboutRoom
+refused-by-inputs s t q n = go (inputRefusal (q .call)) (roomRefusal s (q .call) (q .numbers) (q .bytes)) (room-among s (q .call) (q .numbers) (q .bytes) .1)
+  where
+    go : (i r : Option ℕ) → Among aboutRoom r → orElse i r ≡ some n → isIn n aboutRoom ≡ false → orElse i (roomRefusal t (q .call) (q .numbers) (q .bytes)) ≡ some n
+    go (some m) r a e f = e
+    go none r a e f = clash (subst (Among aboutRoom) e a) f
+
+when-is : (b : Bool) (m n : ℕ) → when b m ≡ some n → n ≡ m
+unfolding when
+when-is true m n e = sym (Option·some-injective m n e)
+when-is false m n e = absurd (Option·none-ne-some n e)
+
+pub reading-refused : (s : Store) → ReadingRefused s
+unfolding blocksRefusal sendersRefusal gapRefusal
+reading-refused s = record {
+  blocks = λ numbers bytes n e. when-is _ 5 n e;
+  senders = λ bytes n e. when-is _ 5 n e;
+  nonces = λ sender head pendingCount numbers n e. when-is _ 5 n e;
+}
+
+pub refused-changes-nothing : RefusedChangesNothing
+unfolding step unless
+refused-changes-nothing s q n e = rw e

@@ -1,0 +1,4 @@
+pub mod Pairs
+pub mod Refusals
+pub mod Reachable
+pub mod Listings
