@@ -1,0 +1,4 @@
+pub mod HexTurns
+pub mod NumberLaws
+pub mod NumberTurns
+pub mod TextLaws
