@@ -1,0 +1,49 @@
+// What a fold writes: the pending records and the totals, as bytes.
+ghost use mathlib.Core.Path.{_≡_};
+ghost use mathlib.Core.List.{[], _∷_};
+ghost use Prim.Native.Nat.{_+_, _*_, _≤_};
+ghost use lib.ListN.{length};
+ghost use Rattle.lists.specs.Lists.{collect, written};
+ghost use Rattle.wire.specs.Numbers.{digits};
+ghost use Rattle.refusal.specs.Numbers.{refusalNumber};
+ghost use Rattle.gap_quarantine_journal.specs.Fold.{output};
+ghost use Rattle.gap_quarantine_journal.specs.View.{parksSeen};
+use super::pending::PendingSet;
+use refusal::Refusal;
+use totals::Totals;
+
+// Writes the pending records, 240 bytes each.
+pub(crate) fn write_parks(set: PendingSet, out: &mut [u8])
+    requires { ⌜ (set .count ≤ 64) × (240 * set .count ≤ length (now out)) ⌝ }
+    ensures { λ _. ⌜ now (out .exit) ≡ written (output (parksSeen set)) (now (out .entry)) ⌝ }
+{
+    let count = set.count;
+    let mut i = 0;
+    while i < count {
+        let park = set.parks[i];
+        let bytes = journal_record::park_bytes(park);
+        wire::put_bytes(out, 240 * i, &bytes);
+        i += 1;
+    }
+}
+
+// Writes the five totals, 8 bytes each.
+pub(crate) fn write_totals(out: &mut [u8], pending: u64, sums: Totals, end: u64)
+    requires { ⌜ length (now out) ≡ 40 ⌝ }
+    ensures { λ _. ⌜ now (out .exit) ≡ collect (digits 8) (pending ∷ sums .skipped ∷ sums .migrated ∷ sums .degraded ∷ end ∷ []) ⌝ }
+{
+    wire::put_number(out, 0, 8, pending);
+    wire::put_number(out, 8, 8, sums.skipped);
+    wire::put_number(out, 16, 8, sums.migrated);
+    wire::put_number(out, 24, 8, sums.degraded);
+    wire::put_number(out, 32, 8, end);
+}
+
+// A refusal's number and offset in one.
+pub(crate) fn code_of(refusal: Refusal, at: usize) -> u64
+    requires { ⌜ at ≤ 65536 ⌝ }
+    ensures { λ r. ⌜ r ≡ refusalNumber refusal + 256 * at ⌝ }
+{
+    let n = refusal::number(refusal);
+    n + 256 * at as u64
+}
