@@ -1,0 +1,5 @@
+pub mod Sizes
+pub mod CutRule
+pub mod Keys
+pub mod Places
+pub mod Refolding
