@@ -1,0 +1,4 @@
+// Document 01's worked examples: claims in specs/, proofs in proofs/. No code is added.
+pub struct Nothing {
+    pub none: bool,
+}
