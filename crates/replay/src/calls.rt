@@ -1,0 +1,139 @@
+// The calls that may change the store: inputs read, call made, answer printed.
+use super::print;
+use super::script;
+use gap_quarantine::NonceConsumed;
+use gap_quarantine::ParkedFrame;
+use gap_quarantine::Quarantine;
+
+pub(crate) fn push(q: Quarantine, s: &[u8]) -> Quarantine {
+    let hash = script::hash_at(s, 2);
+    let from = script::address_at(s, 34);
+    let frame = ParkedFrame {
+        hash: hash,
+        from: from,
+        expected: script::number_at(s, 54),
+        claim: script::number_at(s, 62),
+        chain_id: script::number_at(s, 70),
+        gas: script::number_at(s, 78),
+        ticket: script::number_at(s, 86),
+    };
+    let r = q.push(frame);
+    let answer = r.answer;
+    print::answer(answer);
+    let store = r.store;
+    store
+}
+
+pub(crate) fn poll(q: Quarantine, s: &[u8]) -> Quarantine {
+    let mut rows = [0u64; 1216];
+    let sender = script::address_at(s, 2);
+    let head = script::number_at(s, 22);
+    let known = script::numbers_at(s, 30);
+    let known_count = known.count;
+    let known_list = known.list;
+    let at = script::after_list(s, 30, 8);
+    if script::byte_at(s, at) == 0 {
+        let r = q.poll(sender, head, &known_list[0..known_count], &mut rows);
+        let answer = r.answer;
+        let n = print::answer(answer);
+        print::rows(&rows, 19, n);
+        let store = r.store;
+        return store;
+    }
+    let pairs = script::after(s, at, 1);
+    let nonces = script::numbers_at(s, pairs);
+    let nonce_count = nonces.count;
+    let nonce_list = nonces.list;
+    let hashes = script::bytes_at(s, script::after_list(s, pairs, 8));
+    let r = q.poll_with_content(
+        sender,
+        head,
+        &known_list[0..known_count],
+        &nonce_list[0..nonce_count],
+        hashes,
+        &mut rows,
+    );
+    let answer = r.answer;
+    let n = print::answer(answer);
+    print::rows(&rows, 19, n);
+    let store = r.store;
+    store
+}
+
+pub(crate) fn guard(q: Quarantine, s: &[u8]) -> Quarantine {
+    let hash = script::hash_at(s, 3);
+    let preds = script::numbers_at(s, 35);
+    let pred_count = preds.count;
+    let pred_list = preds.list;
+    let contents_at = script::after_list(s, 35, 8);
+    let contents = script::bytes_at(s, contents_at);
+    if script::byte_at(s, 2) == 1 {
+        let boundary = script::number_at(s, script::after_list(s, contents_at, 1));
+        let r = q.record_repark_guard_with_content(
+            hash,
+            &pred_list[0..pred_count],
+            contents,
+            boundary,
+        );
+        let answer = r.answer;
+        print::answer(answer);
+        let store = r.store;
+        return store;
+    }
+    let r = q.record_unhydratable_guard_with_content(hash, &pred_list[0..pred_count], contents);
+    let answer = r.answer;
+    print::answer(answer);
+    let store = r.store;
+    store
+}
+
+pub(crate) fn enter(q: Quarantine, s: &[u8]) -> Quarantine {
+    let hash = script::hash_at(s, 2);
+    let block = script::number_at(s, 35);
+    let block_hash = script::hash_at(s, 43);
+    let taker = script::hash_at(s, 75);
+    let consumed = match script::byte_at(s, 34) {
+        1 => NonceConsumed::MinedAt(block),
+        2 => NonceConsumed::SlotTakenAt(block),
+        _ => NonceConsumed::SlotTakenBy(block),
+    };
+    let r = q.enter_tentative(hash, consumed, block_hash, taker);
+    let answer = r.answer;
+    print::answer(answer);
+    let store = r.store;
+    store
+}
+
+pub(crate) fn reorganise(q: Quarantine, s: &[u8]) -> Quarantine {
+    let mut tickets = [0u64; 64];
+    let block = script::number_at(s, 2);
+    let has_hash = script::byte_at(s, 10) == 1;
+    let hash = script::hash_at(s, 11);
+    let r = q.check_reorg(block, has_hash, hash, &mut tickets);
+    let answer = r.answer;
+    let n = print::answer(answer);
+    print::numbers(&tickets, n);
+    let store = r.store;
+    store
+}
+
+pub(crate) fn finalise(q: Quarantine, s: &[u8]) -> Quarantine {
+    let mut numbers = [0u64; 192];
+    let mut bytes = [0u8; 4096];
+    let r = q.check_finalized(script::number_at(s, 2), &mut numbers, &mut bytes);
+    let answer = r.answer;
+    let n = print::answer(answer);
+    print::rows_with_hashes(&numbers, 3, &bytes, 2, n);
+    let store = r.store;
+    store
+}
+
+pub(crate) fn evict(q: Quarantine, s: &[u8]) -> Quarantine {
+    let mut tickets = [0u64; 64];
+    let r = q.evict_sender(script::address_at(s, 2), &mut tickets);
+    let answer = r.answer;
+    let n = print::answer(answer);
+    print::numbers(&tickets, n);
+    let store = r.store;
+    store
+}
