@@ -1,0 +1,49 @@
+use Prim.Native.Nat.{_-_}
+use borrow.Author.Needs.{needs}
+use Rattle.store_bench.proofs.store_of.Statement.{statement}
+use Rattle.store_bench.proofs.store_of.Tie as tie
+
+abbrev Inv-loop : tie.InvT-loop
+Inv-loop frames q₀ i₀ q i = Unit {0}
+
+abbrev μ-loop : tie.MeasureT-loop
+μ-loop frames q₀ i₀ q i = frames - i
+
+new-requires : tie.Need-new-requires Inv-loop μ-loop
+new-requires c κs = search needs
+
+loop-holds : tie.Need-loop-holds Inv-loop μ-loop
+loop-holds c = search needs
+
+frame-requires : tie.Need-frame-requires Inv-loop μ-loop
+frame-requires c κs = search needs
+
+push-requires : tie.Need-push-requires Inv-loop μ-loop
+push-requires c κs = search needs
+
+add-i : tie.Need-add-i Inv-loop μ-loop
+add-i c = search needs
+
+loop-less : tie.Need-loop-less Inv-loop μ-loop
+loop-less c = search needs
+
+loop-again : tie.Need-loop-again Inv-loop μ-loop
+loop-again c = search needs
+
+returns : tie.Need-returns Inv-loop μ-loop
+returns c = search needs
+
+pub store-of-spec : {M : Type 1} → statement M
+store-of-spec =
+    tie.close
+    (tie.spec
+    Inv-loop
+    μ-loop
+    new-requires
+    loop-holds
+    frame-requires
+    push-requires
+    add-i
+    loop-less
+    loop-again
+    returns)
