@@ -1,0 +1,20 @@
+/* The fold of a journal into its pending park records, for C. The library is target/staticlib/libgap_quarantine_journal.a. */
+#ifndef GAP_QUARANTINE_JOURNAL_H
+#define GAP_QUARANTINE_JOURNAL_H
+
+#include <stddef.h>
+#include <stdint.h>
+
+/* What the 64 pending records take at most, and what the totals take. */
+#define GAP_QUARANTINE_OUT 15360
+#define GAP_QUARANTINE_TOTALS 40
+
+/*
+ * Folds a journal. Returns 0 and writes the pending park records, 240 bytes each, to the front of `out`, and five numbers,
+ * pending, skipped, migrated, degraded and end, as little-endian u64 to `totals`, which is 40 bytes long. Or returns a
+ * refusal's number + 256 * its offset, and writes nothing. The slices must not overlap.
+ */
+uint64_t gap_quarantine_fold(const uint8_t *journal, size_t journal_len, uint8_t *out, size_t out_len, uint8_t *totals,
+                             size_t totals_len);
+
+#endif
