@@ -1,0 +1,179 @@
+//! The published Rust and our static libraries on the same inputs, in one run: a line for each, with the ratio.
+//! FOLD_ARCHIVE and STORE_ARCHIVE name the libraries at build; without them only the Rust is timed.
+use alloy::primitives::{Address, B256};
+use beside::journal::generate;
+use beside::journal::lines;
+use beside::journal::original::Original;
+use beside::journal::ours::{ours, Ours};
+use beside::journal::outcome::ENOUGH;
+use beside::journal::records::Record;
+use beside::random::Random;
+use beside::scratch::Scratch;
+use beside::speed::store_loops::{store_loops, Loop};
+use published::gap_quarantine::{NonceConsumed, ParkedFrame, Quarantine};
+use published::gap_quarantine_journal::read_pending;
+use std::fs;
+use std::hint::black_box;
+use std::time::Instant;
+
+/// Each measure runs this often, and the fastest counts: other work on the machine only slows a run down.
+const TRIES: usize = 5;
+
+/// How often a second something is done.
+fn rate(times: u64, mut run: impl FnMut() -> u64) -> f64 {
+    let mut best = f64::MAX;
+    for _ in 0..TRIES {
+        let start = Instant::now();
+        black_box(run());
+        best = best.min(start.elapsed().as_secs_f64());
+    }
+    times as f64 / best
+}
+
+fn say(name: &str, unit: &str, rust: f64, ours: Option<f64>) {
+    match ours {
+        Some(ours) => println!("{name}: Rust {rust:.0} {unit}/s, ours {ours:.0} {unit}/s, ours / Rust {:.3}", ours / rust),
+        None => println!("{name}: Rust {rust:.0} {unit}/s, ours not linked"),
+    }
+}
+
+// ---- the store; each loop answers how many rows or frames it saw, so that both sides can be seen to do the same
+
+fn frame(sender: u8, number: u8) -> ParkedFrame {
+    let mut hash = [sender; 32];
+    hash[31] = number;
+    beside::store::original::parked(&beside::store::calls::Frame {
+        hash,
+        from: [sender; 20],
+        expected: 5,
+        claim: 8,
+        chain_id: 1,
+        gas: 21_000,
+        ticket: u64::from(number),
+    })
+}
+
+/// Eight senders of eight frames each; every poll gives eight rows of StillWaiting.
+fn polls(rounds: u64) -> u64 {
+    let mut q = Quarantine::new();
+    for i in 0..64 {
+        q.push(frame(i / 8, i));
+    }
+    (0..rounds).map(|i| q.poll(Address([(i % 8) as u8; 20]), 5, &[6]).len() as u64).sum()
+}
+
+/// One frame with a matching guard of three predecessors; every poll brings their content and gives one row.
+fn guarded_polls(rounds: u64) -> u64 {
+    let mut q = Quarantine::new();
+    q.push(frame(1, 1));
+    let hashes = [B256([7; 32]), B256([8; 32]), B256([9; 32])];
+    q.record_repark_guard_with_content(frame(1, 1).hash, &[5, 6, 7], &hashes, 5);
+    let content = [(5, hashes[0]), (6, hashes[1]), (7, hashes[2])];
+    (0..rounds).map(|_| q.poll_with_content(Address([1; 20]), 5, &[5, 6, 7], &content).len() as u64).sum()
+}
+
+/// A push, and the poll that rescues the frame.
+fn push_and_rescue(rounds: u64) -> u64 {
+    let mut q = Quarantine::new();
+    let mut seen = 0;
+    for _ in 0..rounds {
+        q.push(frame(1, 1));
+        seen += q.poll(Address([1; 20]), 8, &[]).len() as u64;
+    }
+    seen
+}
+
+/// Eight pushes, eight enterings, and the finality that ends them.
+fn finality(rounds: u64) -> u64 {
+    let mut q = Quarantine::new();
+    let mut seen = 0;
+    for _ in 0..rounds {
+        for i in 0..8 {
+            q.push(frame(i, i));
+        }
+        for i in 0..8 {
+            q.enter_tentative(frame(i, i).hash, NonceConsumed::MinedAt { block: 100, block_hash: B256([3; 32]) });
+        }
+        seen += q.check_finalized(100).len() as u64;
+    }
+    seen
+}
+
+fn store() {
+    let ours = store_loops();
+    let measures: [(&str, fn(u64) -> u64, u64, Option<Loop>); 4] = [
+        ("polls with 8 frames a sender, 64 held", polls, 100_000, ours.as_ref().map(|o| o.polls)),
+        ("guarded polls with content", guarded_polls, 400_000, ours.as_ref().map(|o| o.guarded_polls)),
+        ("push and rescue", push_and_rescue, 400_000, ours.as_ref().map(|o| o.push_and_rescue)),
+        ("8 pushes, 8 enterings and their finality", finality, 40_000, ours.as_ref().map(|o| o.finality)),
+    ];
+    for (name, rust, rounds, ours) in measures {
+        if let Some(ours) = ours {
+            assert_eq!(rust(100), ours(100), "{name}: both sides see as many rows");
+        }
+        say(name, "rounds", rate(rounds, || rust(rounds)), ours.map(|ours| rate(rounds, || ours(rounds))));
+    }
+}
+
+// ---- the journal
+
+/// Journals of records that a test picks, each as long as a fold takes, with their lines.
+fn journals(count: usize, wanted: fn(&Record) -> bool) -> Vec<(Vec<u8>, Vec<String>)> {
+    let mut list = Vec::new();
+    let mut seed = 0;
+    while list.len() < count {
+        let (mut bytes, mut text) = (Vec::new(), Vec::new());
+        while bytes.len() < 60_000 {
+            let mut r = Random::new(seed);
+            for record in generate::records(seed).iter().filter(|record| wanted(record)) {
+                bytes.extend_from_slice(&record.bytes());
+                text.push(lines::line(record, &mut r));
+            }
+            seed += 1;
+        }
+        list.push((bytes, text));
+    }
+    list
+}
+
+fn fold(name: &str, wanted: fn(&Record) -> bool, scratch: &Scratch, ours: Option<&dyn Ours>) {
+    let list = journals(20, wanted);
+    let records: u64 = list.iter().map(|(_, text)| text.len() as u64).sum();
+    let json: usize = list.iter().map(|(_, text)| text.iter().map(|l| l.len() + 1).sum::<usize>()).sum();
+    let binary: usize = list.iter().map(|(bytes, _)| bytes.len()).sum();
+    let original = Original::new(scratch.path());
+    let files: Vec<_> = list
+        .iter()
+        .enumerate()
+        .map(|(i, (_, text))| {
+            let file = scratch.path().join(format!("bench-{i}.jsonl"));
+            fs::write(&file, text.join("\n") + "\n").expect("the folder is writable");
+            file
+        })
+        .collect();
+    let rust =
+        rate(records, || files.iter().map(|f| read_pending(f).expect("it was just written").pending.len() as u64).sum());
+    let ours = ours.map(|ours| {
+        let mut out = vec![0; ENOUGH];
+        let mut totals = [0; 40];
+        for (i, (bytes, text)) in list.iter().enumerate() {
+            assert_eq!(ours.fold(bytes, &mut out, &mut totals), 0, "journal {i} folds");
+            let pending = u64::from_le_bytes(totals[..8].try_into().expect("8 bytes"));
+            assert_eq!(pending, original.read_lines(text).pending.len() as u64, "both sides hold as many");
+        }
+        rate(records, || list.iter().map(|(bytes, _)| ours.fold(bytes, &mut out, &mut totals)).sum())
+    });
+    say(&format!("fold, {name} ({records} records, {json} bytes of JSON or {binary} of records)"), "records", rust, ours);
+}
+
+fn main() {
+    println!("fastest of {TRIES} runs each; read_pending parses JSON from a file in memory, our fold reads records, so the two do not do the same work");
+    store();
+    let scratch = Scratch::new();
+    let linked = ours();
+    let linked = linked.as_deref();
+    fold("all marks but QX", |r| !matches!(r, Record::Other(_)), &scratch, linked);
+    fold("QP only", |r| matches!(r, Record::Park(_)), &scratch, linked);
+    fold("QT and QR", |r| matches!(r, Record::Tentative(_) | Record::Resolve(_)), &scratch, linked);
+    fold("QL only", |r| matches!(r, Record::Legacy(_)), &scratch, linked);
+}

@@ -1,0 +1,167 @@
+//! Holds our store and journal beside the published Rust: document 01's examples, random scripts, all short runs, the order
+//! rule, random journals, cuts, restores, and wrong rules. The last line has the counts and the number of differences.
+//!
+//! compare [--replay PROGRAM] [--calls N] [--orders N] [--journals N] [--seed N]
+use beside::intended;
+use beside::journal::original::Original;
+use beside::journal::ours::{ours, Ours};
+use beside::journal::{compare as journals, strength as journal_strength, wrong as journal_wrong};
+use beside::scratch::Scratch;
+use beside::store::menu::{menu, LONGEST};
+use beside::store::replay::Replay;
+use beside::store::{compare as stores, order, strength as store_strength, wrong as store_wrong};
+use std::path::Path;
+use std::process::ExitCode;
+
+/// How many random scripts, and how many journals, a wrong rule is looked for in.
+const SCRIPTS_FOR_WRONG: u64 = 3000;
+const JOURNALS_FOR_WRONG: u64 = 3000;
+
+/// How many journals are cut at every byte.
+const JOURNALS_CUT: u64 = 200;
+
+struct Sizes {
+    calls: usize,
+    orders: u64,
+    journals: u64,
+    seed: u64,
+    replay: Option<String>,
+}
+
+fn sizes() -> Sizes {
+    let mut sizes = Sizes { calls: 1_200_000, orders: 100_000, journals: 100_000, seed: 0, replay: None };
+    let mut words = std::env::args().skip(1);
+    while let Some(word) = words.next() {
+        let value = words.next().unwrap_or_else(|| panic!("{word} needs a value"));
+        let number = || value.parse::<u64>().unwrap_or_else(|_| panic!("{word} needs a number"));
+        match word.as_str() {
+            "--replay" => sizes.replay = Some(value),
+            "--calls" => sizes.calls = number() as usize,
+            "--orders" => sizes.orders = number(),
+            "--journals" => sizes.journals = number(),
+            "--seed" => sizes.seed = number(),
+            _ => panic!("unknown word {word}"),
+        }
+    }
+    sizes
+}
+
+/// What is held beside the Rust, and what a run comes to.
+struct Run<'a> {
+    sizes: &'a Sizes,
+    replay: Option<&'a Replay>,
+    linked: Option<&'a dyn Ours>,
+    original: &'a Original,
+    folder: &'a Path,
+    differences: usize,
+    counts: Vec<String>,
+}
+
+impl Run<'_> {
+    fn examples(&mut self) {
+        let (store, c) = stores::examples(self.replay);
+        let (journal, d) = journals::examples(self.original, self.linked);
+        println!(
+            "document 01's examples, on the Rust: {store} of {} for the store, {journal} of {} for the journal",
+            c.scripts, d.journals
+        );
+        self.differences += c.scripts - store + d.journals - journal + c.model + c.replay + d.model + d.ours;
+        let mut hold = 0;
+        for (says, check) in intended::ALL {
+            match check(self.folder) {
+                true => hold += 1,
+                false => println!("NOT SO: {says}"),
+            }
+        }
+        println!("what docs/DIFFERENCES.md says of the Rust: {hold} of {} hold", intended::ALL.len());
+        self.differences += intended::ALL.len() - hold;
+    }
+
+    fn store(&mut self) {
+        let random = stores::random(self.sizes.seed, self.sizes.calls, self.replay);
+        println!("store, random: {random}");
+        let short = stores::short_runs(self.replay);
+        println!("store, every run of up to {LONGEST} calls of a menu of {}: {short}", menu().len());
+        self.differences += random.model + random.replay + short.model + short.replay;
+        self.differences += self.replay.map_or(0, stores::bad_inputs);
+        self.counts.push(format!("{} store calls", random.calls + short.calls));
+        self.counts.push(format!("{} random scripts and {} short runs", random.scripts, short.scripts));
+    }
+
+    fn orders(&mut self) {
+        let (mut pairs, mut reordered, mut differences, mut reversed) = (0, 0, 0, 0);
+        for seed in self.sizes.seed..self.sizes.seed + self.sizes.orders {
+            match order::try_orders(seed) {
+                order::Outcome::NoRoom => {}
+                order::Outcome::SameOrder => pairs += 1,
+                order::Outcome::Equal => (pairs, reordered) = (pairs + 1, reordered + 1),
+                order::Outcome::Different(says) => {
+                    (pairs, reordered, differences) = (pairs + 1, reordered + 1, differences + 1);
+                    println!("DIFFERENCE between two orders: {says}");
+                }
+            }
+            reversed += usize::from(order::reversed_differs(seed));
+        }
+        println!("order rule, on the Rust: {pairs} pairs with room, {reordered} truly reordered, {differences} differences");
+        println!("  the reverse of the list, which is no legal order, was told apart in {reversed}");
+        self.differences += differences;
+        self.counts.push(format!("{reordered} true reorderings"));
+    }
+
+    fn journal(&mut self) {
+        let random = journals::random(self.sizes.seed, self.sizes.journals, self.original, self.linked);
+        println!("journal, random: {random}");
+        let (cuts, differences) = journals::cuts(self.sizes.seed, JOURNALS_CUT, self.original, self.linked);
+        println!("journal, cut at every byte: {cuts} cuts, {differences} differences");
+        self.differences += random.model + random.ours + differences;
+        self.counts.push(format!("{} journals, {} restores, {cuts} cuts", random.journals, random.restores));
+    }
+
+    /// Says whether every wrong rule was caught.
+    fn strength(&mut self) -> bool {
+        let seed = self.sizes.seed;
+        println!("wrong rules for the store:");
+        let store = store_wrong::ALL;
+        let in_store = store.iter().filter(|(w, says)| store_strength::catches(*w, says, seed, SCRIPTS_FOR_WRONG)).count();
+        println!("wrong rules for the journal:");
+        let journal = journal_wrong::ALL;
+        let answers = journal_strength::answered(seed, JOURNALS_FOR_WRONG, self.original);
+        let in_journal =
+            journal.iter().filter(|(w, says)| journal_strength::catches(*w, says, &answers, self.original)).count();
+        self.counts.push(format!("wrong rules caught {in_store} of {} and {in_journal} of {}", store.len(), journal.len()));
+        in_store == store.len() && in_journal == journal.len()
+    }
+}
+
+fn main() -> ExitCode {
+    let sizes = sizes();
+    let scratch = Scratch::new();
+    let replay = sizes.replay.as_ref().map(|program| Replay::new(Path::new(program), scratch.path()));
+    let linked = ours();
+    let original = Original::new(scratch.path());
+    let mut run = Run {
+        sizes: &sizes,
+        replay: replay.as_ref(),
+        linked: linked.as_deref(),
+        original: &original,
+        folder: scratch.path(),
+        differences: 0,
+        counts: Vec::new(),
+    };
+    run.examples();
+    run.store();
+    run.orders();
+    run.journal();
+    let caught = run.strength();
+    let beside = match (replay.is_some(), linked.is_some()) {
+        (true, true) => "the Rust beside replay, the C function of the fold and the model",
+        (true, false) => "the Rust beside replay (store) and the model; no C function was linked",
+        (false, true) => "the Rust beside the C function (fold) and the model; no replay was given",
+        (false, false) => "the Rust beside the model only; no replay was given and no C function was linked",
+    };
+    println!("{beside}: {}; {} differences", run.counts.join(", "), run.differences);
+    match caught && run.differences == 0 {
+        true => ExitCode::SUCCESS,
+        false => ExitCode::FAILURE,
+    }
+}

@@ -1,0 +1,14 @@
+//! The journal: records, the Rust, a model of document 01, our C function, and where their inputs come from.
+mod brief;
+pub mod compare;
+pub mod examples;
+pub mod generate;
+mod layout;
+pub mod lines;
+pub mod model;
+pub mod original;
+pub mod ours;
+pub mod outcome;
+pub mod records;
+pub mod strength;
+pub mod wrong;

@@ -1,0 +1,46 @@
+//! Our side of the journal: the C function of the static library, if one is linked.
+
+/// A side that folds as the C function does, on lent slices.
+pub trait Ours {
+    fn fold(&self, journal: &[u8], out: &mut [u8], totals: &mut [u8]) -> u64;
+}
+
+#[cfg(fold_linked)]
+mod linked {
+    extern "C" {
+        fn gap_quarantine_fold(
+            journal: *const u8,
+            journal_len: usize,
+            out: *mut u8,
+            out_len: usize,
+            totals: *mut u8,
+            totals_len: usize,
+        ) -> u64;
+    }
+
+    pub struct Linked;
+
+    impl super::Ours for Linked {
+        fn fold(&self, journal: &[u8], out: &mut [u8], totals: &mut [u8]) -> u64 {
+            // The slices are valid for their lengths, do not overlap, and the function keeps no pointer.
+            unsafe {
+                gap_quarantine_fold(
+                    journal.as_ptr(),
+                    journal.len(),
+                    out.as_mut_ptr(),
+                    out.len(),
+                    totals.as_mut_ptr(),
+                    totals.len(),
+                )
+            }
+        }
+    }
+}
+
+/// The linked library, or none.
+pub fn ours() -> Option<Box<dyn Ours>> {
+    #[cfg(fold_linked)]
+    return Some(Box::new(linked::Linked));
+    #[cfg(not(fold_linked))]
+    None
+}

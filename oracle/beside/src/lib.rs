@@ -1,0 +1,10 @@
+//! The quarantine beside the published Rust.
+pub mod hex;
+pub mod intended;
+pub mod journal;
+pub mod random;
+mod report;
+pub mod scratch;
+pub mod shrink;
+pub mod speed;
+pub mod store;

@@ -1,0 +1,102 @@
+//! The store's calls, in the form that scripts carry them.
+
+pub type Hash = [u8; 32];
+pub type Address = [u8; 20];
+
+#[derive(Clone, Debug, PartialEq, Eq)]
+pub struct Frame {
+    pub hash: Hash,
+    pub from: Address,
+    pub expected: u64,
+    pub claim: u64,
+    pub chain_id: u64,
+    pub gas: u64,
+    pub ticket: u64,
+}
+
+/// What consumed a nonce: kind 1 mined, 2 taken, 3 taken by a known hash; the taker is zeros unless the kind is 3.
+#[derive(Clone, Copy, Debug, PartialEq, Eq)]
+pub struct Consumed {
+    pub kind: u8,
+    pub block: u64,
+    pub block_hash: Hash,
+    pub taker: Hash,
+}
+
+/// The content given to a poll, as lent: nonces, and hash bytes that need not be 32 for each.
+#[derive(Clone, Debug, PartialEq, Eq)]
+pub struct Content {
+    pub nonces: Vec<u64>,
+    pub hashes: Vec<u8>,
+}
+
+/// Kind 1 Reparked has a boundary, kind 2 Unhydratable none.
+#[derive(Clone, Debug, PartialEq, Eq)]
+pub struct GuardCall {
+    pub hash: Hash,
+    pub boundary: Option<u64>,
+    pub predecessors: Vec<u64>,
+    pub content: Vec<u8>,
+}
+
+#[derive(Clone, Debug, PartialEq, Eq)]
+pub enum Call {
+    Push(Frame),
+    Poll { sender: Address, head: u64, known: Vec<u64>, content: Option<Content> },
+    Guard(GuardCall),
+    Enter { hash: Hash, consumed: Consumed },
+    Reorg { block: u64, hash: Option<Hash> },
+    Finality { block: u64 },
+    Evict { sender: Address },
+    State(Hash),
+    Boundary(Hash),
+    Blocks,
+    Len,
+    Senders,
+    TentativeCount,
+    KnownGap { sender: Address, head: u64, pending_count: u64 },
+    HasGuard(Address),
+    Dump,
+}
+
+impl Call {
+    pub fn mark(&self) -> &'static str {
+        match self {
+            Call::Push(_) => "CP",
+            Call::Poll { .. } => "CQ",
+            Call::Guard(_) => "CG",
+            Call::Enter { .. } => "CE",
+            Call::Reorg { .. } => "CR",
+            Call::Finality { .. } => "CF",
+            Call::Evict { .. } => "CV",
+            Call::State(_) => "CS",
+            Call::Boundary(_) => "CB",
+            Call::Blocks => "CT",
+            Call::Len => "CL",
+            Call::Senders => "CN",
+            Call::TentativeCount => "CC",
+            Call::KnownGap { .. } => "CK",
+            Call::HasGuard(_) => "CH",
+            Call::Dump => "CD",
+        }
+    }
+
+    /// The seven calls that may change the store.
+    pub fn changes(&self) -> bool {
+        matches!(
+            self,
+            Call::Push(_)
+                | Call::Poll { .. }
+                | Call::Guard(_)
+                | Call::Enter { .. }
+                | Call::Reorg { .. }
+                | Call::Finality { .. }
+                | Call::Evict { .. }
+        )
+    }
+}
+
+/// Something that answers calls: the Rust, or a model of document 01.
+pub trait Side {
+    fn answer(&mut self, call: &Call) -> super::answers::Answer;
+}

@@ -1,0 +1,189 @@
+//! The store's comparisons: random scripts, all short runs, and the wrong rules.
+use super::answers::Answer;
+use super::brief::brief;
+use super::calls::{Call, Side};
+use super::model::Model;
+use super::original::Original;
+use super::replay::{first_difference, Batch, Replay};
+use super::script::{led, Script, SCRIPT_LIMIT};
+use super::strength::show;
+use super::{generate, menu};
+use crate::hex::hex;
+use crate::report::tell;
+use crate::shrink::shrink;
+use std::collections::BTreeMap;
+use std::fmt;
+
+/// What was run, and how often the Rust and another side differed.
+#[derive(Default)]
+pub struct Counts {
+    pub scripts: usize,
+    pub calls: usize,
+    pub dumps: usize,
+    pub refused: BTreeMap<u8, usize>,
+    pub rows: [usize; 3],
+    pub broken: usize,
+    pub model: usize,
+    pub replay: usize,
+    pub replayed: usize,
+}
+
+impl Counts {
+    fn see(&mut self, script: &Script, answers: &[Answer]) {
+        self.scripts += 1;
+        self.calls += answers.len();
+        self.broken += usize::from(!script.broken.is_empty());
+        for answer in answers {
+            match answer {
+                Answer::Dump(_) => self.dumps += 1,
+                Answer::Refused(n) => *self.refused.entry(*n).or_default() += 1,
+                Answer::Rows(rows) => rows.iter().for_each(|row| self.rows[row[1] as usize - 1] += 1),
+                _ => {}
+            }
+        }
+    }
+}
+
+impl fmt::Display for Counts {
+    fn fmt(&self, f: &mut fmt::Formatter<'_>) -> fmt::Result {
+        let [rescued, consumed, waiting] = self.rows;
+        write!(f, "{} scripts, {} calls, {} of them dumps of the whole store; ", self.scripts, self.calls, self.dumps)?;
+        write!(f, "{} scripts that break off; ", self.broken)?;
+        write!(f, "rows Rescue {rescued}, NonceConsumed {consumed}, StillWaiting {waiting}; refusals {:?}; ", self.refused)?;
+        write!(f, "differences from the model {}; ", self.model)?;
+        write!(f, "{} scripts given to replay, {} runs of it that differ", self.replayed, self.replay)
+    }
+}
+
+/// Runs scripts on the Rust, on the model, and on our program if there is one.
+pub struct Comparison<'a> {
+    pub counts: Counts,
+    replay: Option<&'a Replay>,
+    batch: Batch,
+}
+
+impl<'a> Comparison<'a> {
+    pub fn new(replay: Option<&'a Replay>) -> Self {
+        Comparison { counts: Counts::default(), replay, batch: Batch::default() }
+    }
+
+    pub fn script(&mut self, script: Script) {
+        let bytes = script.bytes();
+        if bytes.len() > SCRIPT_LIMIT {
+            return;
+        }
+        if !self.batch.has_room(bytes.len()) {
+            self.finish();
+        }
+        let (lines, answers) = script.lines(self.batch.scripts.len(), &mut Original::default());
+        if let Some(place) = differs(&script.calls, &mut Model::default(), &answers) {
+            self.counts.model += 1;
+            if tell() {
+                println!("DIFFERENCE between the Rust and the model:");
+                show(&script.calls[..=place], || Box::new(Model::default()));
+            }
+        }
+        self.counts.see(&script, &answers);
+        if self.replay.is_some() {
+            self.batch.input.extend_from_slice(&led(&bytes));
+            self.batch.lines.push_str(&lines);
+            self.batch.scripts.push(script);
+        }
+    }
+
+    /// Gives our program what is gathered.
+    pub fn finish(&mut self) {
+        let Some(replay) = self.replay else {
+            return;
+        };
+        let batch = std::mem::take(&mut self.batch);
+        let found = replay.run(&batch.input);
+        self.counts.replayed += batch.scripts.len();
+        if let Some((number, expected, found)) = first_difference(&batch.lines, &found) {
+            self.counts.replay += 1;
+            if tell() {
+                println!("DIFFERENCE between the Rust and replay: {expected:?} / {found:?}");
+                show_replay(&batch.scripts[number], replay);
+            }
+        }
+    }
+}
+
+/// The smallest script on which the Rust and our program differ, with the lines of both.
+fn show_replay(script: &Script, replay: &Replay) {
+    let with = |calls: &[Call]| Script { calls: calls.to_vec(), broken: script.broken.clone() };
+    let rust = |script: &Script| script.lines(0, &mut Original::default()).0;
+    let differ = |calls: &[Call]| rust(&with(calls)) != replay.lines(&with(calls));
+    if !differ(&script.calls) {
+        return println!("  the script alone shows no difference");
+    }
+    let smallest = with(&shrink(&script.calls, differ));
+    println!("  smallest script: {}", hex(&smallest.bytes()));
+    smallest.calls.iter().for_each(|call| println!("    {}", brief(call)));
+    print!("  the Rust:\n{}  replay:\n{}", rust(&smallest), replay.lines(&smallest));
+}
+
+/// The first place at which a side answers something else.
+fn differs(calls: &[Call], side: &mut dyn Side, answers: &[Answer]) -> Option<usize> {
+    (0..calls.len()).find(|i| side.answer(&calls[*i]) != answers[*i])
+}
+
+/// Document 01's examples: the answers that it states, from the Rust and from the others. Says how many hold.
+pub fn examples(replay: Option<&Replay>) -> (usize, Counts) {
+    let mut comparison = Comparison::new(replay);
+    let mut hold = 0;
+    for example in super::examples::examples() {
+        let mut original = Original::default();
+        let found: Vec<Answer> = example.calls.iter().map(|call| original.answer(call)).collect();
+        let wrong: Vec<&(usize, Answer)> =
+            example.answers.iter().filter(|(place, answer)| found[*place] != *answer).collect();
+        hold += usize::from(wrong.is_empty());
+        for (place, answer) in wrong {
+            println!("EXAMPLE {:?}: call {place} answers {} and not {answer}", example.says, found[*place]);
+        }
+        comparison.script(Script { calls: example.calls, broken: Vec::new() });
+    }
+    comparison.finish();
+    (hold, comparison.counts)
+}
+
+/// Standard input that breaks off in a script's length, or has a script over the limit: the lines of the scripts before, and
+/// `bad input`. Says how many of the inputs our program does not answer so.
+pub fn bad_inputs(replay: &Replay) -> usize {
+    let script = generate::script(1);
+    let before = led(&script.bytes());
+    let expected = script.lines(0, &mut Original::default()).0 + "bad input\n";
+    let long = led(&[0; SCRIPT_LIMIT + 1]);
+    let tails: [&[u8]; 4] = [&[1], &[1, 0], &[1, 0, 0], &long];
+    let mut differences = 0;
+    for tail in tails {
+        let found = replay.run(&[&before, tail].concat());
+        if found != expected {
+            differences += 1;
+            let last = found.lines().last().unwrap_or("(nothing)");
+            println!("DIFFERENCE from replay's formats: a script and {} bytes more, last line {last:?}", tail.len());
+        }
+    }
+    differences
+}
+
+/// Random scripts until so many calls are made.
+pub fn random(seed: u64, calls: usize, replay: Option<&Replay>) -> Counts {
+    let mut comparison = Comparison::new(replay);
+    let mut next = seed;
+    while comparison.counts.calls < calls {
+        comparison.script(generate::script(next));
+        next += 1;
+    }
+    comparison.finish();
+    comparison.counts
+}
+
+/// Every run of up to four calls of the menu.
+pub fn short_runs(replay: Option<&Replay>) -> Counts {
+    let mut comparison = Comparison::new(replay);
+    menu::scripts().for_each(|script| comparison.script(script));
+    comparison.finish();
+    assert_eq!(comparison.counts.scripts, menu::runs());
+    comparison.counts
+}

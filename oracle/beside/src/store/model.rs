@@ -1,0 +1,422 @@
+//! Document 01's store in plain Rust, written from the document: one list of entries in walk order, one list of guards.
+//! A wrong rule may be planted in it.
+use super::answers::{Answer, Dump, Entry, Guard, Row, State};
+use super::calls::{Address, Call, Consumed, Content, Frame, GuardCall, Hash, Side};
+use super::wrong::Wrong;
+
+#[derive(Clone, Default)]
+pub struct Model {
+    pub entries: Vec<Entry>,
+    pub guards: Vec<Guard>,
+    wrong: Option<Wrong>,
+}
+
+impl Model {
+    pub fn with(wrong: Wrong) -> Self {
+        Model { wrong: Some(wrong), ..Model::default() }
+    }
+
+    fn plants(&self, wrong: Wrong) -> bool {
+        self.wrong == Some(wrong)
+    }
+
+    // ---- a frame
+
+    pub fn degraded(&self, f: &Frame) -> bool {
+        if self.plants(Wrong::DegradedByEither) {
+            return f.chain_id == 0 || f.gas == 0;
+        }
+        f.chain_id == 0 && f.gas == 0
+    }
+
+    /// Every n with expected <= n < claim.
+    fn gap(&self, f: &Frame) -> Vec<u64> {
+        if self.plants(Wrong::GapHasClaim) && f.expected <= f.claim {
+            return (f.expected..=f.claim).take(16).collect();
+        }
+        (f.expected..f.claim).collect()
+    }
+
+    fn predecessors(&self, f: &Frame, head: u64) -> Vec<u64> {
+        let mut list = self.gap(f);
+        if !self.plants(Wrong::GapIgnoresHead) {
+            list.retain(|n| *n >= head);
+        }
+        list
+    }
+
+    fn unknown(&self, f: &Frame, head: u64, known: &[u64]) -> Vec<u64> {
+        let mut list = self.predecessors(f, head);
+        if self.plants(Wrong::UnknownIgnoresHead) {
+            list = self.gap(f);
+        }
+        let known = if self.plants(Wrong::KnownAtHeadOnly) { &known[..known.len().min(1)] } else { known };
+        list.retain(|n| !known.contains(n));
+        list
+    }
+
+    fn consumed(&self, f: &Frame, head: u64) -> bool {
+        head > f.claim || self.plants(Wrong::ConsumedAtClaim) && head == f.claim
+    }
+
+    // ---- guards
+
+    fn guard_of(guards: &[Guard], hash: Hash) -> Option<&Guard> {
+        guards.iter().find(|g| g.hash == hash)
+    }
+
+    fn drop_guard(&mut self, hash: Hash) {
+        self.guards.retain(|g| g.hash != hash);
+    }
+
+    fn content_matches(&self, guarded: &[Hash], predecessors: &[u64], content: Option<&Content>) -> bool {
+        let Some(content) = content else {
+            return self.plants(Wrong::GuardNoContentMatches);
+        };
+        if guarded.is_empty() || content.nonces.is_empty() {
+            return self.plants(Wrong::GuardEmptyContentMatches);
+        }
+        if self.plants(Wrong::GuardContentsEqualLength) && guarded.len() != predecessors.len() {
+            return false;
+        }
+        let current: Vec<(u64, &[u8])> = content.nonces.iter().copied().zip(content.hashes.chunks(32)).collect();
+        predecessors.iter().zip(guarded).enumerate().all(|(i, (nonce, hash))| {
+            if self.plants(Wrong::GuardSearchesAllPairs) {
+                return current.iter().any(|(n, h)| n == nonce && h == hash);
+            }
+            if self.plants(Wrong::GuardPairsByPlace) {
+                return current.get(i).is_some_and(|(_, h)| h == hash);
+            }
+            current.iter().find(|(n, _)| n == nonce).is_some_and(|(_, h)| h == hash)
+        })
+    }
+
+    fn guard_matches(&self, g: &Guard, f: &Frame, head: u64, content: Option<&Content>) -> bool {
+        let predecessors = self.predecessors(f, head);
+        if self.plants(Wrong::GuardNotAtFrontier) && g.boundary.is_none() && predecessors.is_empty() {
+            return false;
+        }
+        let boundary = match g.boundary {
+            Some(_) if self.plants(Wrong::GuardIgnoresBoundary) => true,
+            Some(boundary) if self.plants(Wrong::GuardBoundaryIsHead) => boundary == head,
+            Some(boundary) => boundary == f.expected,
+            None => true,
+        };
+        let same = match self.wrong {
+            Some(Wrong::GuardIgnoresPredecessors) => true,
+            Some(Wrong::GuardPredecessorsPrefix) => predecessors.starts_with(&g.predecessors),
+            _ => g.predecessors == predecessors,
+        };
+        same && boundary && self.content_matches(&g.content, &predecessors, content)
+    }
+
+    fn guard(&mut self, call: &GuardCall) -> Answer {
+        if call.predecessors.len() > 16 {
+            return Answer::Refused(6);
+        }
+        if call.content.len() % 32 != 0 || call.content.len() / 32 > 16 {
+            return Answer::Refused(7);
+        }
+        let guard = Guard {
+            hash: call.hash,
+            boundary: call.boundary,
+            predecessors: call.predecessors.clone(),
+            content: call.content.chunks(32).map(|h| h.try_into().expect("whole hashes")).collect(),
+        };
+        let held = self.guards.iter().position(|g| g.hash == call.hash);
+        if self.guards.len() >= 64 && (held.is_none() || self.plants(Wrong::GuardRefusedByCount)) {
+            return Answer::Refused(8);
+        }
+        match held {
+            Some(_) if self.plants(Wrong::GuardFirstStays) => {}
+            Some(i) => self.guards[i] = guard,
+            None => self.guards.push(guard),
+        }
+        Answer::Done
+    }
+
+    // ---- poll
+
+    fn poll(&mut self, sender: Address, head: u64, known: &[u64], content: Option<&Content>) -> Answer {
+        if known.len() > 256 {
+            return Answer::Refused(3);
+        }
+        if content.is_some_and(|c| c.nonces.len() > 64 || c.hashes.len() != 32 * c.nonces.len()) {
+            return Answer::Refused(4);
+        }
+        let start = self.guards.clone();
+        let mut rows = Vec::new();
+        let mut kept = Vec::new();
+        for mut entry in std::mem::take(&mut self.entries) {
+            if entry.frame.from != sender || self.poll_entry(&mut entry, head, known, content, &start, &mut rows) {
+                kept.push(entry);
+            }
+        }
+        self.entries = kept;
+        Answer::Rows(rows)
+    }
+
+    /// Rules 1 to 7 for one entry of the sender; whether it stays.
+    fn poll_entry(
+        &mut self,
+        entry: &mut Entry,
+        head: u64,
+        known: &[u64],
+        content: Option<&Content>,
+        start: &[Guard],
+        rows: &mut Vec<Row>,
+    ) -> bool {
+        let f = entry.frame.clone();
+        let mut say = |code: u64, nonces: &[u64]| {
+            let mut row = [0; 19];
+            (row[0], row[1], row[2]) = (f.ticket, code, nonces.len() as u64);
+            row[3..3 + nonces.len()].copy_from_slice(nonces);
+            rows.push(row);
+        };
+        // 1
+        if entry.state != State::Tracked && !self.plants(Wrong::TentativeIsPolled) {
+            return true;
+        }
+        let consumed = self.consumed(&f, head);
+        let unknown = self.unknown(&f, head, known);
+        let predecessors = self.predecessors(&f, head);
+        // 2
+        if self.degraded(&f) && !(self.plants(Wrong::DegradedIsRescued) && unknown.is_empty()) {
+            if consumed {
+                say(2, &[]);
+                if self.plants(Wrong::HeldWhenConsumed) {
+                    entry.held = Some(head);
+                }
+                return !self.plants(Wrong::ConsumedLeaves);
+            }
+            let reported = match self.wrong {
+                Some(Wrong::HeldOncePerAdvance) => entry.held.is_none_or(|held| held < head),
+                Some(Wrong::HeldEachPoll) => true,
+                _ => entry.held != Some(head),
+            };
+            if reported {
+                entry.held = Some(head);
+                say(3, if self.plants(Wrong::HeldListsPredecessors) { &predecessors } else { &unknown });
+            }
+            return true;
+        }
+        // 3
+        if consumed {
+            say(2, &[]);
+            return !self.plants(Wrong::ConsumedLeaves);
+        }
+        // 4 is in `gap`, `predecessors` and `unknown`
+        let guards = if self.plants(Wrong::GuardsAsAtStart) { start } else { &self.guards };
+        let guarded = Self::guard_of(guards, f.hash).is_some_and(|g| self.guard_matches(g, &f, head, content));
+        // 5
+        if !unknown.is_empty() && !(self.plants(Wrong::GuardBeforeUnknown) && guarded) {
+            say(3, &unknown);
+            return true;
+        }
+        // 6
+        if guarded {
+            say(3, if self.plants(Wrong::GuardRowEmpty) { &[] } else { &predecessors });
+            return true;
+        }
+        // 7
+        say(1, &predecessors);
+        if !self.plants(Wrong::GuardStaysAtRescue) {
+            self.drop_guard(f.hash);
+        }
+        false
+    }
+
+    // ---- the other calls that change the store
+
+    fn push(&mut self, f: &Frame) -> Answer {
+        let most = if self.plants(Wrong::SixteenRefused) { 15 } else { 16 };
+        if f.claim.saturating_sub(f.expected) > most || self.plants(Wrong::BelowRefused) && f.claim < f.expected {
+            return Answer::Refused(1);
+        }
+        let tracked = self.entries.iter().filter(|e| e.state == State::Tracked).count();
+        let held = if self.plants(Wrong::FullByTracked) { tracked } else { self.entries.len() };
+        if held >= 64 {
+            return Answer::Refused(2);
+        }
+        let place = self.entries.iter().position(|e| e.frame.from > f.from).unwrap_or(self.entries.len());
+        let place = if self.plants(Wrong::WalkInPushOrder) { self.entries.len() } else { place };
+        self.entries.insert(place, Entry { frame: f.clone(), state: State::Tracked, held: None });
+        Answer::Total(if self.plants(Wrong::TotalOfTracked) { tracked + 1 } else { self.entries.len() } as u64)
+    }
+
+    fn enter(&mut self, hash: Hash, consumed: Consumed) -> Answer {
+        let of_hash = |e: &Entry| e.frame.hash == hash;
+        let tracked = |e: &Entry| of_hash(e) && e.state == State::Tracked;
+        let place = match self.wrong {
+            Some(Wrong::EnterFirstOnly) => {
+                self.entries.iter().position(of_hash).filter(|i| self.entries[*i].state == State::Tracked)
+            }
+            Some(Wrong::EnterLast) => self.entries.iter().rposition(tracked),
+            _ => self.entries.iter().position(tracked),
+        };
+        if place.is_some() && !self.plants(Wrong::GuardStaysAtEntering)
+            || place.is_none() && self.plants(Wrong::GuardDroppedByFailedEntering)
+        {
+            self.drop_guard(hash);
+        }
+        let clears = self.plants(Wrong::HeldClearedByEntering);
+        if let Some(i) = place {
+            self.entries[i].state = State::Tentative(consumed);
+            if clears {
+                self.entries[i].held = None;
+            }
+        }
+        Answer::Truth(place.is_some())
+    }
+
+    fn reorg(&mut self, block: u64, hash: Option<Hash>) -> Answer {
+        let wrong = self.wrong;
+        let mut revived = Vec::new();
+        for entry in &mut self.entries {
+            let State::Tentative(c) = entry.state else {
+                continue;
+            };
+            let there = c.block == block || wrong == Some(Wrong::ReorgFromBlock) && c.block > block;
+            let differs = match (wrong, hash) {
+                (Some(Wrong::ReorgNeedsHash), None) => false,
+                (Some(Wrong::ReorgEqualRevives), Some(h)) => h == c.block_hash,
+                (_, Some(h)) => h != c.block_hash,
+                (_, None) => true,
+            };
+            if there && differs {
+                entry.state = State::Tracked;
+                if wrong == Some(Wrong::HeldClearedByRevival) {
+                    entry.held = None;
+                }
+                revived.push(entry.frame.clone());
+            }
+        }
+        if !self.plants(Wrong::GuardStaysAtRevival) {
+            revived.iter().for_each(|f| self.drop_guard(f.hash));
+        }
+        Answer::Tickets(revived.iter().map(|f| f.ticket).collect())
+    }
+
+    fn finality(&mut self, n: u64) -> Answer {
+        let wrong = self.wrong;
+        let ends = |e: &Entry| match e.state {
+            State::Tentative(c) if wrong == Some(Wrong::FinalityBelow) => c.block < n,
+            State::Tentative(c) => c.block <= n,
+            State::Tracked => false,
+        };
+        let senders: Vec<Address> = self.entries.iter().filter(|e| ends(e)).map(|e| e.frame.from).collect();
+        let leaves = |e: &Entry| {
+            ends(e)
+                || wrong == Some(Wrong::FinalityTakesTracked) && e.state == State::Tracked && senders.contains(&e.frame.from)
+        };
+        let dead: Vec<Entry> = self.entries.iter().filter(|e| leaves(e)).cloned().collect();
+        self.entries.retain(|e| !leaves(e));
+        if !self.plants(Wrong::GuardStaysAtFinality) {
+            dead.iter().for_each(|e| self.drop_guard(e.frame.hash));
+        }
+        let listed = dead.iter().filter_map(|e| match e.state {
+            State::Tentative(c) => Some((e.frame.ticket, c)),
+            State::Tracked => None,
+        });
+        Answer::Dead(listed.collect())
+    }
+
+    fn evict(&mut self, sender: Address) -> Answer {
+        let stays = self.plants(Wrong::EvictKeepsTentative);
+        let leaves = |e: &Entry| e.frame.from == sender && !(stays && e.state != State::Tracked);
+        let gone: Vec<Frame> = self.entries.iter().filter(|e| leaves(e)).map(|e| e.frame.clone()).collect();
+        self.entries.retain(|e| !leaves(e));
+        if !self.plants(Wrong::GuardStaysAtEviction) {
+            gone.iter().for_each(|f| self.drop_guard(f.hash));
+        }
+        Answer::Tickets(gone.iter().map(|f| f.ticket).collect())
+    }
+
+    // ---- the calls that only read
+
+    fn state(&self, hash: Hash) -> Option<State> {
+        let mut found = self.entries.iter().filter(|e| e.frame.hash == hash);
+        let entry = if self.plants(Wrong::StateOfLast) { found.last() } else { found.next() };
+        entry.map(|e| e.state)
+    }
+
+    fn boundary(&self, hash: Hash) -> Option<u64> {
+        let skips = |e: &Entry| self.plants(Wrong::BoundaryOfTracked) && e.state != State::Tracked;
+        self.entries.iter().find(|e| e.frame.hash == hash && !skips(e)).map(|e| e.frame.expected)
+    }
+
+    fn blocks(&self) -> Vec<(u64, Hash)> {
+        let mut list: Vec<(u64, Hash)> = Vec::new();
+        for entry in &self.entries {
+            if let State::Tentative(c) = entry.state {
+                match list.iter_mut().find(|(n, _)| *n == c.block) {
+                    Some(_) if self.plants(Wrong::BlocksFirstHash) => {}
+                    Some(block) => block.1 = c.block_hash,
+                    None => list.push((c.block, c.block_hash)),
+                }
+            }
+        }
+        list.sort_by_key(|(n, _)| *n);
+        list
+    }
+
+    fn senders(&self) -> Vec<Address> {
+        let mut list: Vec<Address> = self.entries.iter().map(|e| e.frame.from).collect();
+        list.dedup();
+        list
+    }
+
+    fn known_gap(&self, sender: Address, head: u64, pending_count: u64) -> Vec<u64> {
+        let mut list = Vec::new();
+        for entry in self.entries.iter().filter(|e| e.frame.from == sender) {
+            let tracked = entry.state == State::Tracked || self.plants(Wrong::KnownGapOfTentative);
+            let degraded = self.degraded(&entry.frame) && !self.plants(Wrong::KnownGapOfDegraded);
+            if tracked && !degraded {
+                let end = |n: u64| n < pending_count || self.plants(Wrong::KnownGapToCount) && n == pending_count;
+                list.extend(self.gap(&entry.frame).into_iter().filter(|n| *n >= head && end(*n)));
+            }
+        }
+        list.sort_unstable();
+        if !self.plants(Wrong::KnownGapTwice) {
+            list.dedup();
+        }
+        list
+    }
+
+    fn has_guard(&self, sender: Address) -> bool {
+        let counts = |e: &Entry| e.state == State::Tracked || !self.plants(Wrong::HasGuardTracked);
+        let of_sender = self.entries.iter().filter(|e| e.frame.from == sender && counts(e));
+        of_sender.into_iter().any(|e| Self::guard_of(&self.guards, e.frame.hash).is_some())
+    }
+
+    fn dump(&self) -> Dump {
+        let mut guards = self.guards.clone();
+        guards.sort_by_key(|g| g.hash);
+        Dump { entries: self.entries.clone(), guards }
+    }
+}
+
+impl Side for Model {
+    fn answer(&mut self, call: &Call) -> Answer {
+        match call {
+            Call::Push(f) => self.push(f),
+            Call::Poll { sender, head, known, content } => self.poll(*sender, *head, known, content.as_ref()),
+            Call::Guard(g) => self.guard(g),
+            Call::Enter { hash, consumed } => self.enter(*hash, *consumed),
+            Call::Reorg { block, hash } => self.reorg(*block, *hash),
+            Call::Finality { block } => self.finality(*block),
+            Call::Evict { sender } => self.evict(*sender),
+            Call::State(hash) => Answer::State(self.state(*hash)),
+            Call::Boundary(hash) => Answer::Boundary(self.boundary(*hash)),
+            Call::Blocks => Answer::Blocks(self.blocks()),
+            Call::Len => Answer::Number(self.entries.len() as u64),
+            Call::Senders => Answer::Senders(self.senders()),
+            Call::TentativeCount => Answer::Number(self.entries.iter().filter(|e| e.state != State::Tracked).count() as u64),
+            Call::KnownGap { sender, head, pending_count } => {
+                Answer::Numbers(self.known_gap(*sender, *head, *pending_count))
+            }
+            Call::HasGuard(sender) => Answer::Truth(self.has_guard(*sender)),
+            Call::Dump => Answer::Dump(self.dump()),
+        }
+    }
+}
