@@ -11,25 +11,30 @@ use borrow.Author.Tests.{lt-ltb, le-ltb, ltb-false}
 use Rattle.lists.specs.Bytes.{Bytes}
 use Rattle.lists.specs.Lists.{collect, written}
 use Rattle.refusal.specs.declared.Refusal.the-variants.{ShortSlice}
-use Rattle.gap_quarantine.specs.Frames.{Frame, Entry, Guard, Visit}
-use Rattle.gap_quarantine.specs.Rules.{onlyOf, evictRule, reorgRule, finalRule}
-use Rattle.gap_quarantine.specs.Store.{Store, Call, evictSender, checkReorg, checkFinalized, Walked, walk, walked, frames, dead, effect, inputRefusal, roomRefusal, refusal, orElse, when, unless, listed, step}
-use Rattle.gap_quarantine.specs.Answers.{ticketNumbers, deadNumbers, deadBytes, said, numbersOf, bytesOf}
-use Rattle.gap_quarantine.specs.View.{frameOf, entriesSeen, guardsSeen, viewOf}
-use Rattle.gap_quarantine.specs.Contracts.{Performs}
-use Rattle.gap_quarantine.specs.Passes.{Passes, deadOf, hashOf, Sweeps, Finishes}
+use Rattle.frames.specs.Frames.{Frame, Entry, Guard, Visit}
+use Rattle.frames.specs.Rules.{onlyOf, evictRule, reorgRule, finalRule}
+use Rattle.frames.specs.Store.{Store, Call, evictSender, checkReorg, checkFinalized, Walked, walk, walked, frames, dead, effect, inputRefusal, roomRefusal, refusal, orElse, when, unless, listed, step}
+use Rattle.frames.specs.Answers.{ticketNumbers, deadNumbers, deadBytes, said, numbersOf, bytesOf}
+use Rattle.frames.specs.View.{frameOf, entriesSeen, guardsSeen}
+use Rattle.gap_quarantine.specs.Contracts.{viewOf, Performs}
+use Rattle.passes.specs.Passes.{Passes, deadOf}
+use Rattle.frames.specs.declared.Pending.{Pending}
+use Rattle.frames.specs.declared.Slots.{Slots}
+use Rattle.frames.proofs.Seen.{listed-count}
 use Rattle.gap_quarantine.specs.declared.Quarantine.{Quarantine}
 use Rattle.gap_quarantine.specs.declared.Answer.the-variants.{Frames, Dead as answered, Refused}
-use Rattle.gap_quarantine.specs.declared.passes.Swept.{Swept}
-use Rattle.gap_quarantine.specs.declared.passes.Finished.{Finished}
+use Rattle.passes.specs.declared.Swept.{Swept}
+use Rattle.passes.specs.declared.Finished.{Finished}
 
--- how many are listed
-pub listed-count : {X A : Type 0} (item : X → A) (l : List X) (m : List A) (n : ℕ) → length l ≡ 64 → n ≤ 64 → map item (take n l) ≡ m → length m ≡ n
-listed-count item l m n z b e = sym (ap length e) ∙ simp (length-map, length-take) (omega arith)
+-- the store that a pass leaves: the guards themselves stay where they are
+abbrev pub left : Quarantine → Pending → Slots → Quarantine
+left q p ss = record { pending = p; «repark_guard» = record { slots = ss; guards = q .«repark_guard» .guards; len = q .«repark_guard» .len } }
 
 -- ---- a call that lists tickets
 
-module _ (q : Quarantine) (call : Call) (rule : Option Guard → Entry → Visit Frame) (r : Swept) (p : Sweeps rule q r)
+module _ (q : Quarantine) (call : Call) (rule : Option Guard → Entry → Visit Frame) (r : Swept)
+    (p : Passes frameOf (walk rule (entriesSeen (q .pending)) (guardsSeen (q .«repark_guard»))) (r .pending .entries) (r .pending .len)
+    (guardsSeen (left q (r .pending) (r .slots) .«repark_guard»)) (r .frames) (r .count))
     (does : (s : Store) → effect s call ≡ walked (walk rule (s .entries) (s .guards)) frames)
     (free : (s : Store) (n m : ℕ) → refusal s (record { call = call; numbers = n; bytes = m }) ≡ when (ltb n (length (walk rule (s .entries) (s .guards) .listed))) 5)
     (before : List ℕ) where
@@ -44,7 +49,7 @@ module _ (q : Quarantine) (call : Call) (rule : Option Guard → Entry → Visit
       record { store = rw (u, t); answer = rw (u, t); numbersAfter = rw (u, t); bytesAfter = rw (u, t); kept = λ x e. refl }
 
   pub tickets-listed : (after : List ℕ) → r .count ≤ length before → after ≡ written (collect ticketNumbers (map frameOf (take (r .count) (r .frames)))) before →
-      Performs q call before [] (record { answer = Frames (r .count); store = r .store }) after []
+      Performs q call before [] (record { answer = Frames (r .count); store = left q (r .pending) (r .slots) }) after []
   unfolding step walked when unless said numbersOf bytesOf
   tickets-listed after h w =
       let t = le-ltb (length before) (length (walk rule (entriesSeen (q .pending)) (guardsSeen (q .«repark_guard»)) .listed)) (omega (arith, count)) in
@@ -89,7 +94,10 @@ has-room a x b y h = go (ltb a x) refl (ltb b y) refl h
     go false p true q e = absurd (true≢false e)
     go false p false q e = (ltb-false a x p, ltb-false b y q)
 
-module _ (q : Quarantine) (n : ℕ) (r : Finished) (p : Finishes (finalRule n) q r) (numbers bytes : List ℕ) where
+module _ (q : Quarantine) (n : ℕ) (r : Finished)
+    (p : Passes deadOf (walk (finalRule n) (entriesSeen (q .pending)) (guardsSeen (q .«repark_guard»))) (r .pending .entries) (r .pending .len)
+    (guardsSeen (left q (r .pending) (r .slots) .«repark_guard»)) (r .dead) (r .count))
+    (numbers bytes : List ℕ) where
   count-dead : length (walk (finalRule n) (entriesSeen (q .pending)) (guardsSeen (q .«repark_guard»)) .listed) ≡ r .count
   count-dead = listed-count deadOf (r .dead) _ (r .count) (p .room) (p .fits) (p .told)
 
@@ -103,7 +111,7 @@ module _ (q : Quarantine) (n : ℕ) (r : Finished) (p : Finishes (finalRule n) q
   pub dead-listed : (numbers′ bytes′ : List ℕ) → (ltb (length numbers) (3 * r .count) || ltb (length bytes) (64 * r .count)) ≡ false →
       numbers′ ≡ written (collect deadNumbers (map deadOf (take (r .count) (r .dead)))) numbers →
       bytes′ ≡ written (collect deadBytes (map deadOf (take (r .count) (r .dead)))) bytes →
-      Performs q (checkFinalized n) numbers bytes (record { answer = answered (r .count); store = r .store }) numbers′ bytes′
+      Performs q (checkFinalized n) numbers bytes (record { answer = answered (r .count); store = left q (r .pending) (r .slots) }) numbers′ bytes′
   unfolding step refusal inputRefusal roomRefusal effect walked listed orElse when unless said numbersOf bytesOf
   dead-listed numbers′ bytes′ h w v =
       let t = rw (← count-dead) at h in

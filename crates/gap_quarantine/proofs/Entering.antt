@@ -9,21 +9,21 @@ use lib.Seq.{take-set-lt, getD-take}
 use Rattle.lists.specs.Bytes.{Bytes, eqBytes}
 use Rattle.lists.specs.Search.{firstAt}
 use Rattle.lists.proofs.Compacting.{clamp}
-use Rattle.gap_quarantine.specs.Frames.{Consumed, Entry}
-use Rattle.gap_quarantine.specs.Store.{isTracked, enters, enterWith, enterFirst, anyEnters, dropGuard, enterTentative, effect, inputRefusal, roomRefusal, refusal, orElse, unless, step}
-use Rattle.gap_quarantine.specs.Answers.{said, numbersOf, bytesOf}
-use Rattle.gap_quarantine.specs.View.{entryOf, entriesSeen, guardsSeen}
+use Rattle.frames.specs.Frames.{Consumed, Entry}
+use Rattle.frames.specs.Store.{isTracked, enters, enterWith, enterFirst, anyEnters, dropGuard, enterTentative, effect, inputRefusal, roomRefusal, refusal, orElse, unless, step}
+use Rattle.frames.specs.Answers.{said, numbersOf, bytesOf}
+use Rattle.frames.specs.View.{entryOf, entriesSeen, liveOf, guardsSeen}
 use Rattle.gap_quarantine.specs.Contracts.{Performs}
-use Rattle.gap_quarantine.specs.LiveGuards.{liveOf, slotOf, dropped}
+use Rattle.rescue.specs.LiveGuards.{dropped}
 use Rattle.gap_quarantine.specs.Holding.{entersSeen}
-use Rattle.gap_quarantine.specs.declared.Entry as coded
-use Rattle.gap_quarantine.specs.declared.NonceConsumed.{NonceConsumed}
-use Rattle.gap_quarantine.specs.declared.FrameState.the-variants.{Tracked, Tentative}
-use Rattle.gap_quarantine.specs.declared.Guards.{Guards}
+use Rattle.frames.specs.declared.Entry as coded
+use Rattle.frames.specs.declared.NonceConsumed.{NonceConsumed}
+use Rattle.frames.specs.declared.FrameState.the-variants.{Tracked, Tentative}
 use Rattle.gap_quarantine.specs.declared.Quarantine.{Quarantine}
 use Rattle.gap_quarantine.specs.declared.Answer.the-variants.{Entered}
-use Rattle.gap_quarantine.specs.declared.rescue.Slot.{Slot}
-use Rattle.gap_quarantine.proofs.LiveGuards.{all-live, all-matched, dropped-live}
+use Rattle.frames.specs.declared.Slots.{Slots}
+use Rattle.rescue.proofs.LiveGuards.{dropped-live}
+use Rattle.gap_quarantine.proofs.Calls.{left}
 
 -- ---- the test of an entry
 
@@ -91,13 +91,12 @@ module _ (q : Quarantine) (h : Bytes) (c : Consumed) (len k : ℕ) (whole : leng
       let m = rw all-seen at n in
       record { store = rw (m .0, m .1); answer = rw (m .1); numbersAfter = refl; bytesAfter = refl; kept = λ x e. refl }
 
-  pub present : (d f : coded.Entry) (slots : List Slot) (live : Guards) → k < len → entryOf f ≡ enterWith c (entryOf (getD (q .pending .entries) k d)) →
-      slots ≡ map (dropped h) (map slotOf (q .«repark_guard» .guards)) →
-      guardsSeen live ≡ liveOf (take (q .«repark_guard» .len) slots) (q .«repark_guard» .guards) →
+  pub present : (d f : coded.Entry) (slots : Slots) → k < len → entryOf f ≡ enterWith c (entryOf (getD (q .pending .entries) k d)) →
+      slots .slots ≡ map (dropped h) (q .«repark_guard» .slots .slots) →
       Performs q (enterTentative h c) [] []
-      (record { answer = Entered true; store = record { pending = record { entries = set (q .pending .entries) k f; len = q .pending .len }; «repark_guard» = live } }) [] []
+      (record { answer = Entered true; store = left q (record { entries = set (q .pending .entries) k f; len = q .pending .len }) slots }) [] []
   unfolding step refusal inputRefusal roomRefusal orElse unless effect said numbersOf bytesOf
-  present d f slots live b made drops kept =
+  present d f slots b made drops =
       let es : List coded.Entry = q .pending .entries in
       let at : entryOf f ≡ enterWith c (entryOf (getD (take len es) (firstAt (entersSeen h) (take len es)) d)) =
       rw (← found, getD-take len es k d b) made in
@@ -106,8 +105,8 @@ module _ (q : Quarantine) (h : Bytes) (c : Consumed) (len k : ℕ) (whole : leng
       let same : length (set es k f) ≡ 64 = length-set es k f ∙ whole in
       let part : take (q .pending .len) (set es k f) ≡ set (take len es) k f =
       sym (clamp (q .pending .len) 64 (set es k f) same) ∙ rw (← is) (take-set-lt len es k f b) in
-      let gone : guardsSeen live ≡ dropGuard h (guardsSeen (q .«repark_guard»)) =
-      kept ∙ rw (drops, ← dropped-live h (q .«repark_guard» .len) (map slotOf (q .«repark_guard» .guards)) (q .«repark_guard» .guards) (all-matched (q .«repark_guard» .guards)), all-live (q .«repark_guard» .len) (q .«repark_guard» .guards)) in
+      let gone : liveOf (take (q .«repark_guard» .len) (slots .slots)) (q .«repark_guard» .guards) ≡ dropGuard h (guardsSeen (q .«repark_guard»)) =
+      rw (drops, ← dropped-live h (q .«repark_guard» .len) (q .«repark_guard» .slots .slots) (q .«repark_guard» .guards)) in
       record {
         store = rw (part, gone, ← all-seen, m .0, m .1);
         answer = rw (← all-seen, m .1);

@@ -6,13 +6,13 @@ use mathlib.Core.List.{List, [], _∷_, _++_}
 use lib.ListN.{length, getD, set, length-append}
 use Rattle.lists.specs.Bytes.{Bytes}
 use Rattle.lists.proofs.Writing.{one-at, three-at, at-behind, Wrote, wrote-more}
-use Rattle.gap_quarantine.specs.Answers.{ticketNumbers, deadNumbers, deadBytes, takerNumber, takerHash}
-use Rattle.gap_quarantine.specs.View.{consumedOf, frameOf}
-use Rattle.gap_quarantine.specs.Passes.{deadOf, blockOf}
-use Rattle.gap_quarantine.specs.Listing.{Puts}
-use Rattle.gap_quarantine.specs.declared.ParkedFrame.{ParkedFrame}
-use Rattle.gap_quarantine.specs.declared.passes.DeadFrame.{DeadFrame}
-use Rattle.gap_quarantine.proofs.Visits.{block-seen, hash-seen}
+use Rattle.frames.specs.Answers.{ticketNumbers, deadNumbers, deadBytes, takerNumber, takerHash}
+use Rattle.frames.specs.View.{consumedOf, frameOf, blockOf}
+use Rattle.passes.specs.Passes.{deadOf}
+use Rattle.frames.specs.Listing.{Puts}
+use Rattle.frames.specs.declared.ParkedFrame.{ParkedFrame}
+use Rattle.passes.specs.declared.DeadFrame.{DeadFrame}
+use Rattle.frames.proofs.Seen.{block-seen, hash-seen}
 
 module _ (frames : List ParkedFrame) (n : ℕ) (out₀ out : List ℕ) (i : ℕ) (d : ParkedFrame) (w : Wrote frameOf ticketNumbers 1 frames n out₀ out i)
     (h : i < n) (few : n ≤ 64) (whole : length frames ≡ 64) (room : n ≤ length out₀) where

@@ -13,19 +13,20 @@ use Rattle.lists.specs.Bytes.{Bytes, eqBytes}
 use Rattle.lists.specs.Lists.{keep, isEmpty, collect, written}
 use Rattle.lists.proofs.Compacting.{clamp, rest-on, rest-none}
 use Rattle.lists.proofs.Keeping.{keep-yes, keep-no}
-use Rattle.gap_quarantine.specs.Frames.{State, tracked, tentative, Entry, degraded, Guard, Row, Visit}
-use Rattle.gap_quarantine.specs.Poll.{Content, predecessors, unknown, guardMatches, heldAt, stay, leave, row, pollDegraded, pollFull, pollIn, pollGiven, pollRule}
-use Rattle.gap_quarantine.specs.Rules.{onlyOf}
-use Rattle.gap_quarantine.specs.Store.{Call, poll, guardOf, dropGuard, walk, walked, effect, entriesOf, when, orElse, badContent, inputRefusal, roomRefusal, refusal, unless, step}
-use Rattle.gap_quarantine.specs.Answers.{decisionNumber, rowNumbers, numbersOf, bytesOf, number, said}
-use Rattle.gap_quarantine.specs.View.{entryOf, entriesSeen, guardsSeen, contentOf}
+use Rattle.frames.specs.Frames.{State, tracked, tentative, Entry, degraded, Guard, Row, Visit}
+use Rattle.frames.specs.Poll.{Content, predecessors, unknown, guardMatches, heldAt, stay, leave, row, pollDegraded, pollFull, pollIn, pollGiven, pollRule}
+use Rattle.frames.specs.Rules.{onlyOf}
+use Rattle.frames.specs.Store.{Call, poll, guardOf, dropGuard, walk, walked, effect, entriesOf, when, orElse, badContent, inputRefusal, roomRefusal, refusal, unless, step}
+use Rattle.frames.specs.Answers.{decisionNumber, rowNumbers, numbersOf, bytesOf, saysRows, said}
+use Rattle.frames.specs.View.{entryOf, entriesSeen, guardsSeen, contentOf}
 use Rattle.gap_quarantine.specs.Contracts.{Performs}
-use Rattle.gap_quarantine.specs.PollRows.{decisionOf, rowSeen, Polls}
-use Rattle.gap_quarantine.specs.declared.Entry as coded
+use Rattle.passes.specs.PollRows.{decisionOf, rowSeen, Polls}
+use Rattle.frames.specs.declared.Entry as coded
 use Rattle.gap_quarantine.specs.declared.Quarantine.{Quarantine}
 use Rattle.gap_quarantine.specs.declared.Answer.the-variants.{Rows, Refused}
-use Rattle.gap_quarantine.specs.declared.poll.PollRow.{PollRow}
-use Rattle.gap_quarantine.specs.declared.poll.Polled.{Polled}
+use Rattle.passes.specs.declared.poll.PollRow.{PollRow}
+use Rattle.passes.specs.declared.poll.Polled.{Polled}
+use Rattle.gap_quarantine.proofs.Calls.{left}
 
 -- ---- the numbers of a row
 
@@ -131,7 +132,7 @@ module _ (q : Quarantine) (sender : Bytes) (head : ℕ) (known : List ℕ) (cont
           let s = lt-ltb _ _ h in
           record { store = rw (t, good, s); answer = rw (t, good, s); numbersAfter = rw (t, good, s); bytesAfter = rw (t, good, s); kept = λ x e. refl }
 
-      module _ (room : 19 * length (entriesOf sender (entriesSeen (q .pending))) ≤ length before) (r : Polled) (pass : Polls (onlyOf sender (pollRule head known content)) q r) where
+      module _ (room : 19 * length (entriesOf sender (entriesSeen (q .pending))) ≤ length before) (r : Polled) (pass : Polls (onlyOf sender (pollRule head known content)) (q .pending) (q .«repark_guard») r) where
         counted : r .count ≡ length (walk (onlyOf sender (pollRule head known content)) (entriesSeen (q .pending)) (guardsSeen (q .«repark_guard»)) .listed)
         counted = rw (← pass .told) (rw (length-map, length-take) (omega (arith, pass .fits, pass .room)))
 
@@ -140,14 +141,14 @@ module _ (q : Quarantine) (sender : Bytes) (head : ℕ) (known : List ℕ) (cont
         rows-fit = omega (arith, counted, few-rows sender head known content (entriesSeen (q .pending)) (guardsSeen (q .«repark_guard»)))
 
         pub passed : (after : List ℕ) → after ≡ written (collect rowNumbers (map rowSeen (take (r .count) (r .rows)))) before →
-            Performs q call before [] (record { answer = Rows (r .count); store = r .store }) after []
+            Performs q call before [] (record { answer = Rows (r .count); store = left q (r .pending) (r .slots) }) after []
         unfolding step refusal inputRefusal roomRefusal orElse when unless effect walked said numbersOf bytesOf
         passed after w =
             let t = le-ltb _ _ few in
             let s = le-ltb _ _ room in
             record {
               store = rw (t, good, s) (ap₂ (λ (l : List Entry) (g : List Guard). record { entries = l; guards = g }) (pass .stayed) (pass .guarded));
-              answer = rw (t, good, s) (ap number counted);
+              answer = rw (t, good, s) (ap saysRows counted);
               numbersAfter = rw (t, good, s) (w ∙ rw (pass .told));
               bytesAfter = rw (t, good, s);
               kept = λ x e. absurd (let z : _≡_ {A = ℕ} 0 1 = cc in omega arith);

@@ -1,29 +1,32 @@
 -- What the calls promise: each is its step.
 use Prim.Native.Nat.{ℕ}
 use mathlib.Core.Path.{_≡_}
-use mathlib.Core.Bool.{cond}
 use mathlib.Core.List.{List}
 use lib.ListN.{length}
 use Rattle.lists.specs.Lists.{written}
 use Rattle.refusal.specs.Numbers.{refusalNumber}
 use Rattle.refusal.specs.declared.Refusal.{Refusal}
-use Rattle.gap_quarantine.specs.Store.{Call, Request, step}
-use Rattle.gap_quarantine.specs.Answers.{Said, number, turnedAway, said, numbersOf, bytesOf}
-use Rattle.gap_quarantine.specs.View.{viewOf}
+use Rattle.frames.specs.Store.{Store, Call, Request, step}
+use Rattle.frames.specs.Answers.{Said, saysTotal, saysRows, saysRecorded, saysEntered, saysFrames, saysDead, saysRefused, said, numbersOf, bytesOf}
+use Rattle.frames.specs.View.{entriesSeen, guardsSeen}
 use Rattle.gap_quarantine.specs.declared.Quarantine.{Quarantine}
 use Rattle.gap_quarantine.specs.declared.Answer.{Answer}
 use Rattle.gap_quarantine.specs.declared.Answer.the-variants.{Total, Rows, Recorded, Entered, Frames, Dead, Refused}
 use Rattle.gap_quarantine.specs.declared.Answered.{Answered}
 
+-- the store as the definitions see it
+abbrev pub viewOf : Quarantine → Store
+viewOf q = record { entries = entriesSeen (q .pending); guards = guardsSeen (q .«repark_guard») }
+
 -- what a coded answer says
 abbrev pub heard : Answer → Said
-heard (Total n) = number n
-heard (Rows n) = number n
-heard Recorded = number 0
-heard (Entered b) = number (cond b 1 0)
-heard (Frames n) = number n
-heard (Dead n) = number n
-heard (Refused x) = turnedAway (refusalNumber x)
+heard (Total n) = saysTotal n
+heard (Rows n) = saysRows n
+heard Recorded = saysRecorded
+heard (Entered b) = saysEntered b
+heard (Frames n) = saysFrames n
+heard (Dead n) = saysDead n
+heard (Refused x) = saysRefused (refusalNumber x)
 
 -- a call that is lent these slices
 abbrev pub asked : Call → List ℕ → List ℕ → Request

@@ -1,16 +1,15 @@
 -- What the calls on the held frames alone, or on the guards alone, promise: the whole store's step, whatever stands beside.
 use mathlib.Core.Bool.{Bool, not}
 use mathlib.Core.List.{[]}
-use Rattle.lists.specs.Bytes.{Bytes, eqBytes, leBytes}
-use Rattle.gap_quarantine.specs.Frames.{Guard}
-use Rattle.gap_quarantine.specs.Store.{push, guard, enters}
-use Rattle.gap_quarantine.specs.View.{frameOf, entryOf}
+use Rattle.lists.specs.Bytes.{Bytes, leBytes}
+use Rattle.frames.specs.Frames.{Guard}
+use Rattle.frames.specs.Store.{push, guard, enters}
+use Rattle.frames.specs.View.{frameOf, entryOf}
 use Rattle.gap_quarantine.specs.Contracts.{Performs}
-use Rattle.gap_quarantine.specs.declared.Entry.{Entry}
-use Rattle.gap_quarantine.specs.declared.ParkedFrame.{ParkedFrame}
-use Rattle.gap_quarantine.specs.declared.Pending.{Pending}
-use Rattle.gap_quarantine.specs.declared.Guards.{Guards}
-use Rattle.gap_quarantine.specs.declared.RescueGuard.{RescueGuard}
+use Rattle.frames.specs.declared.Entry.{Entry}
+use Rattle.frames.specs.declared.ParkedFrame.{ParkedFrame}
+use Rattle.frames.specs.declared.Pending.{Pending}
+use Rattle.frames.specs.declared.Guards.{Guards}
 use Rattle.gap_quarantine.specs.declared.holding.Pushed.{Pushed}
 use Rattle.gap_quarantine.specs.declared.recording.Recorded.{Recorded}
 
@@ -27,10 +26,6 @@ Pushes p f r =
     (gs : Guards) →
     Performs (record { pending = p; «repark_guard» = gs }) (push (frameOf f)) [] []
     (record { answer = r .answer; store = record { pending = r .pending; «repark_guard» = gs } }) [] []
-
--- the guard has this hash
-abbrev pub isOf : Bytes → RescueGuard → Bool
-isOf h g = eqBytes (g .hash) h
 
 abbrev pub Records : Guards → Guard → Recorded → Type 0
 Records gs g r =

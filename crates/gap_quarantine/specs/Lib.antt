@@ -1,14 +1,2 @@
-pub mod Frames
-pub mod Poll
-pub mod Rules
-pub mod Store
-pub mod Reading
-pub mod Answers
-pub mod View
 pub mod Contracts
-pub mod ReadingContracts
-pub mod LiveGuards
-pub mod Passes
-pub mod PollRows
 pub mod Holding
-pub mod Listing

@@ -7,97 +7,34 @@ ghost use mathlib.Core.Path.{_≡_};
 ghost use mathlib.Core.Bool.{true};
 ghost use mathlib.Core.List.{[]};
 ghost use mathlib.Core.Option.{none};
-ghost use Rattle.gap_quarantine.specs.Frames.{reparked, unhydratable};
-ghost use Rattle.gap_quarantine.specs.Store.{empty, push, poll, guard, enterTentative, evictSender, checkReorg, checkFinalized};
-ghost use Rattle.gap_quarantine.specs.View.{consumedOf, frameOf, contentOf, entriesSeen, guardsSeen, viewOf};
-ghost use Rattle.gap_quarantine.specs.Passes.{hashOf};
-ghost use Rattle.gap_quarantine.specs.Contracts.{Performs};
+ghost use Rattle.frames.specs.Frames.{reparked, unhydratable};
+ghost use Rattle.frames.specs.Store.{empty, push, poll, guard, enterTentative, evictSender, checkReorg, checkFinalized};
+ghost use Rattle.frames.specs.View.{consumedOf, frameOf, contentOf, hashOf};
+ghost use Rattle.gap_quarantine.specs.Contracts.{viewOf, Performs};
 use refusal::Refusal;
 
-mod holding; // holding.rt: push, and entering the tentative state
+pub mod holding; // holding.rt: push, and entering the tentative state
 mod listing; // listing.rt: lists written to lent slices
-mod passes; // passes.rt: the passes of eviction, reorganisation and finality
-mod poll; // poll.rt: what a poll decides, its pass and its rows
-mod reading; // reading.rt: the calls that only read
+mod poll; // poll.rt: a poll and its rows
+mod reads; // reads.rt: the calls that only read
 mod recording; // recording.rt: the guard call
-mod rescue; // rescue.rt: the guard of a hash, its match, and dropping guards
 
+pub use frames::Entry;
+pub use frames::FrameState;
+pub use frames::Guards;
+pub use frames::HeldHead;
+pub use frames::NonceConsumed;
+pub use frames::ParkedFrame;
+pub use frames::Pending;
+pub use frames::RescueGuard;
+pub use frames::RescueKind;
+pub use frames::Slot;
+pub use frames::Slots;
 pub use reading::Boundary;
 pub use reading::HeldState;
 pub use reading::Listed;
 
-// ---- frames
-
-// Who consumed a frame's nonce, and in which block: the frame itself, another transaction, or another whose hash is known.
-// The block's hash and the taker's stand beside the state in the entry.
-pub enum NonceConsumed {
-    MinedAt(u64),
-    SlotTakenAt(u64),
-    SlotTakenBy(u64),
-}
-
-pub enum FrameState {
-    Tracked,
-    Tentative(NonceConsumed),
-}
-
-// The last head for which a degraded frame was reported as waiting.
-pub enum HeldHead {
-    Never,
-    At(u64),
-}
-
-// A frame parked at its gap. The ticket is the caller's own, and is never compared.
-pub struct ParkedFrame {
-    pub hash: [u8; 32],
-    pub from: [u8; 20],
-    pub expected: u64,
-    pub claim: u64,
-    pub chain_id: u64,
-    pub gas: u64,
-    pub ticket: u64,
-}
-
-// A held frame with its standing. The last two arrays mean something only in a tentative entry.
-pub struct Entry {
-    pub frame: ParkedFrame,
-    pub state: FrameState,
-    pub held: HeldHead,
-    pub block_hash: [u8; 32],
-    pub taker: [u8; 32],
-}
-
-// ---- guards
-
-// Why a rescue is known to be futile; a re-park carries its boundary.
-pub enum RescueKind {
-    Reparked(u64),
-    Unhydratable,
-}
-
-// A rescue guard: its predecessors, and the content as whole hashes one after another, each up to its count.
-pub struct RescueGuard {
-    pub hash: [u8; 32],
-    pub kind: RescueKind,
-    pub preds: [u64; 16],
-    pub pred_count: usize,
-    pub contents: [u8; 512],
-    pub content_count: usize,
-}
-
 // ---- the store
-
-// The held frames, the first `len` of the entries: ascending address, then push order.
-pub struct Pending {
-    pub entries: [Entry; 64],
-    pub len: usize,
-}
-
-// The guards, the first `len`: one a hash, in any order.
-pub struct Guards {
-    pub guards: [RescueGuard; 64],
-    pub len: usize,
-}
 
 pub struct Quarantine {
     pub pending: Pending,
@@ -129,49 +66,6 @@ pub struct Answered {
     pub store: Quarantine,
 }
 
-impl Pending {
-    // No held frame.
-    pub fn new() -> Pending
-        ensures { λ r. ⌜ entriesSeen r ≡ [] ⌝ }
-    {
-        let frame = passes::no_frame();
-        let zeros = [0u8; 32];
-        let none = Entry {
-            frame: frame,
-            state: FrameState::Tracked,
-            held: HeldHead::Never,
-            block_hash: zeros,
-            taker: zeros,
-        };
-        let entries = [none; 64];
-        Pending {
-            entries: entries,
-            len: 0,
-        }
-    }
-}
-
-impl Guards {
-    // No guard.
-    pub fn new() -> Guards
-        ensures { λ r. ⌜ guardsSeen r ≡ [] ⌝ }
-    {
-        let none = RescueGuard {
-            hash: [0u8; 32],
-            kind: RescueKind::Unhydratable,
-            preds: [0u64; 16],
-            pred_count: 0,
-            contents: [0u8; 512],
-            content_count: 0,
-        };
-        let guards = [none; 64];
-        Guards {
-            guards: guards,
-            len: 0,
-        }
-    }
-}
-
 // ---- the calls
 
 impl Quarantine {
@@ -193,7 +87,7 @@ impl Quarantine {
     {
         let pending = self.pending;
         let guards = self.repark_guard;
-        let pushed = pending.push(frame);
+        let pushed = holding::push(pending, frame);
         let after = pushed.pending;
         let answer = pushed.answer;
         Answered {
@@ -252,7 +146,13 @@ impl Quarantine {
     {
         let pending = self.pending;
         let guards = self.repark_guard;
-        let recorded = guards.record(RescueKind::Reparked(boundary), hash, preds, contents);
+        let recorded = recording::record(
+            guards,
+            RescueKind::Reparked(boundary),
+            hash,
+            preds,
+            contents,
+        );
         let after = recorded.guards;
         let answer = recorded.answer;
         Answered {
@@ -277,7 +177,7 @@ impl Quarantine {
     {
         let pending = self.pending;
         let guards = self.repark_guard;
-        let recorded = guards.record(RescueKind::Unhydratable, hash, preds, contents);
+        let recorded = recording::record(guards, RescueKind::Unhydratable, hash, preds, contents);
         let after = recorded.guards;
         let answer = recorded.answer;
         Answered {
@@ -306,7 +206,9 @@ impl Quarantine {
     pub fn evict_sender(self, sender: [u8; 20], tickets: &mut [u64]) -> Answered
         ensures { λ r. ⌜ Performs self (evictSender sender) (now (tickets .entry)) [] r (now (tickets .exit)) [] ⌝ }
     {
-        let swept = passes::evict_pass(self, sender);
+        let pending = self.pending;
+        let slots = self.repark_guard.slots;
+        let swept = passes::evict_pass(pending, slots, sender);
         let count = swept.count;
         if tickets.len() < count {
             return Answered {
@@ -316,10 +218,21 @@ impl Quarantine {
         }
         let frames = swept.frames;
         listing::write_tickets(frames, count, tickets);
-        let store = swept.store;
+        let after = swept.pending;
+        let live = swept.slots;
+        let standing = self.repark_guard.guards;
+        let guard_len = self.repark_guard.len;
+        let guards = Guards {
+            slots: live,
+            guards: standing,
+            len: guard_len,
+        };
         Answered {
             answer: Answer::Frames(count),
-            store: store,
+            store: Quarantine {
+                pending: after,
+                repark_guard: guards,
+            },
         }
     }
 
@@ -333,7 +246,9 @@ impl Quarantine {
     ) -> Answered
         ensures { λ r. ⌜ Performs self (checkReorg block (hashOf «has_hash» hash)) (now (tickets .entry)) [] r (now (tickets .exit)) [] ⌝ }
     {
-        let swept = passes::reorg_pass(self, block, has_hash, hash);
+        let pending = self.pending;
+        let slots = self.repark_guard.slots;
+        let swept = passes::reorg_pass(pending, slots, block, has_hash, hash);
         let count = swept.count;
         if tickets.len() < count {
             return Answered {
@@ -343,10 +258,21 @@ impl Quarantine {
         }
         let frames = swept.frames;
         listing::write_tickets(frames, count, tickets);
-        let store = swept.store;
+        let after = swept.pending;
+        let live = swept.slots;
+        let standing = self.repark_guard.guards;
+        let guard_len = self.repark_guard.len;
+        let guards = Guards {
+            slots: live,
+            guards: standing,
+            len: guard_len,
+        };
         Answered {
             answer: Answer::Frames(count),
-            store: store,
+            store: Quarantine {
+                pending: after,
+                repark_guard: guards,
+            },
         }
     }
 
@@ -354,7 +280,9 @@ impl Quarantine {
     pub fn check_finalized(self, n: u64, numbers: &mut [u64], bytes: &mut [u8]) -> Answered
         ensures { λ r. ⌜ Performs self (checkFinalized n) (now (numbers .entry)) (now (bytes .entry)) r (now (numbers .exit)) (now (bytes .exit)) ⌝ }
     {
-        let finished = passes::final_pass(self, n);
+        let pending = self.pending;
+        let slots = self.repark_guard.slots;
+        let finished = passes::final_pass(pending, slots, n);
         let count = finished.count;
         if listing::lacks_room(numbers.len(), bytes.len(), count) {
             return Answered {
@@ -365,10 +293,21 @@ impl Quarantine {
         let dead = finished.dead;
         listing::write_dead(dead, count, numbers);
         listing::write_hashes(dead, count, bytes);
-        let store = finished.store;
+        let after = finished.pending;
+        let live = finished.slots;
+        let standing = self.repark_guard.guards;
+        let guard_len = self.repark_guard.len;
+        let guards = Guards {
+            slots: live,
+            guards: standing,
+            len: guard_len,
+        };
         Answered {
             answer: Answer::Dead(count),
-            store: store,
+            store: Quarantine {
+                pending: after,
+                repark_guard: guards,
+            },
         }
     }
 }

@@ -3,31 +3,18 @@ ghost use mathlib.Core.Path.{_≡_};
 ghost use mathlib.Core.Bool.{_||_};
 ghost use mathlib.Core.List.{map};
 ghost use lib.Dec.{ltb};
-ghost use Prim.Native.Nat.{_+_, _*_, _≤_};
+ghost use Prim.Native.Nat.{_*_, _≤_};
 ghost use lib.ListN.{length, take};
 ghost use Rattle.lists.specs.Bytes.{Bytes};
 ghost use Rattle.lists.specs.Lists.{collect, written};
-ghost use Rattle.gap_quarantine.specs.Answers.{ticketNumbers, deadNumbers, deadBytes, takerNumber, takerHash};
-ghost use Rattle.gap_quarantine.specs.View.{consumedOf, frameOf};
-ghost use Rattle.gap_quarantine.specs.Passes.{deadOf};
-ghost use Rattle.gap_quarantine.specs.Listing.{Puts};
-use super::NonceConsumed;
-use super::ParkedFrame;
-use super::passes::DeadFrame;
-use super::passes::block_of;
-
-// A hash, to its place in the slice.
-pub(crate) fn put_hash(out: &mut [u8], at: usize, hash: [u8; 32])
-    requires { ⌜ at + 32 ≤ length (now out) ⌝ }
-    ensures { λ _. ⌜ Puts at hash (now (out .entry)) 32 (now (out .exit)) ⌝ }
-{
-    let mut j: usize = 0;
-    while j < 32 {
-        let b = hash[j];
-        out[at + j] = b;
-        j += 1;
-    }
-}
+ghost use Rattle.frames.specs.Answers.{ticketNumbers, deadNumbers, deadBytes, takerNumber, takerHash};
+ghost use Rattle.frames.specs.View.{consumedOf, frameOf};
+ghost use Rattle.passes.specs.Passes.{deadOf};
+use frames::NonceConsumed;
+use frames::ParkedFrame;
+use frames::block_of;
+use frames::put_hash;
+use passes::DeadFrame;
 
 // The tickets of n frames.
 pub(crate) fn write_tickets(frames: [ParkedFrame; 64], n: usize, out: &mut [u64])

@@ -1,20 +1,22 @@
-// The guard call: a new guard replaces the one of its hash in its place, or comes last.
+// The guard call: a new guard replaces the one of its hash in its place, or comes last once the places of dropped ones are freed.
 ghost use mathlib.Core.Path.{_≡_};
-ghost use mathlib.Core.Bool.{false, cond};
-ghost use Prim.Native.Nat.{_+_, _≤_};
-ghost use lib.Dec.{ltb};
-ghost use lib.ListN.{length, take};
-ghost use Rattle.lists.specs.Search.{firstAt};
-ghost use Rattle.gap_quarantine.specs.Store.{badContents};
-ghost use Rattle.gap_quarantine.specs.View.{kindOf, guardSeen};
-ghost use Rattle.gap_quarantine.specs.Holding.{isOf, Records};
+ghost use mathlib.Core.Bool.{true, false};
+ghost use Prim.Native.Nat.{_<_, _≤_};
+ghost use lib.ListN.{length, take, set};
+ghost use Rattle.lists.specs.Bytes.{Bytes};
+ghost use Rattle.frames.specs.Store.{badContents};
+ghost use Rattle.frames.specs.View.{kindOf, guardSeen};
+ghost use Rattle.gap_quarantine.specs.Holding.{Records};
 use super::Answer;
-use super::Guards;
-use super::RescueGuard;
-use super::RescueKind;
-use super::passes::same_hash;
-use super::rescue::clamped;
+use frames::Guards;
+use frames::RescueGuard;
+use frames::RescueKind;
+use frames::Slot;
+use frames::Slots;
+use frames::clamped;
 use refusal::Refusal;
+use rescue::find_slot;
+use rescue::keep_live;
 
 // An answer, and the guards after the call.
 pub struct Recorded {
@@ -62,17 +64,16 @@ fn bad_contents(contents: &[u8]) -> bool
 }
 
 // A guard of what the caller gives.
-fn guard_of(kind: RescueKind, hash: [u8; 32], preds: &[u64], contents: &[u8]) -> RescueGuard
+fn guard_of(kind: RescueKind, preds: &[u64], contents: &[u8]) -> RescueGuard
     requires { ⌜ (length (now preds) ≤ 16) × (badContents (now contents) ≡ false) ⌝ }
-    ensures { λ r. ⌜ guardSeen r
-        ≡ record { hash = hash; kind = kindOf kind; predecessors = now (preds .entry); contents = now (contents .entry) } ⌝ }
+    ensures { λ r. ⌜ ((h : Bytes) → guardSeen h r
+        ≡ record { hash = h; kind = kindOf kind; predecessors = now (preds .entry); contents = now (contents .entry) }) ⌝ }
 {
     let numbers = preds_of(preds);
     let bytes = contents_of(contents);
     let pred_count = preds.len();
     let content_count = contents.len() / 32;
     RescueGuard {
-        hash: hash,
         kind: kind,
         preds: numbers,
         pred_count: pred_count,
@@ -81,74 +82,70 @@ fn guard_of(kind: RescueKind, hash: [u8; 32], preds: &[u64], contents: &[u8]) ->
     }
 }
 
-// The index of the first of n guards that has this hash, or n.
-fn guard_at(gs: Guards, n: usize, hash: [u8; 32]) -> usize
-    requires { ⌜ n ≤ 64 ⌝ }
-    ensures { λ r. ⌜ r ≡ firstAt (isOf hash) (take n (gs .guards)) ⌝ }
+// The guards with one of a hash put to k, so many in all.
+fn put_at(gs: Guards, k: usize, hash: [u8; 32], g: RescueGuard, len: usize) -> Guards
+    requires { ⌜ k < 64 ⌝ }
+    ensures { λ r. ⌜ r ≡ record { slots = record { slots = set (gs .slots .slots) k (record { hash = hash; live = true }) }; guards = set (gs .guards) k g; len = len } ⌝ }
 {
-    let mut i: usize = 0;
-    while i < n {
-        let g = gs.guards[i];
-        let own = g.hash;
-        if same_hash(own, hash) {
-            return i;
-        }
-        i += 1;
+    let mut slots = gs.slots.slots;
+    let mut guards = gs.guards;
+    slots[k] = Slot {
+        hash: hash,
+        live: true,
+    };
+    guards[k] = g;
+    Guards {
+        slots: Slots { slots: slots },
+        guards: guards,
+        len: len,
     }
-    n
 }
 
-// How many guards there are once one is put to k.
-fn count_with(n: usize, k: usize) -> usize
-    requires { ⌜ n ≤ 64 ⌝ }
-    ensures { λ r. ⌜ r ≡ cond (ltb k n) n (n + 1) ⌝ }
+// Records a guard of a hash.
+pub fn record(
+    guards: Guards,
+    kind: RescueKind,
+    hash: [u8; 32],
+    preds: &[u64],
+    contents: &[u8],
+) -> Recorded
+    ensures { λ r. ⌜ Records guards
+        (record { hash = hash; kind = kindOf kind; predecessors = now (preds .entry); contents = now (contents .entry) }) r ⌝ }
 {
-    if k < n { n } else { n + 1 }
-}
-
-impl Guards {
-    // Records a guard of a hash.
-    pub fn record(
-        self,
-        kind: RescueKind,
-        hash: [u8; 32],
-        preds: &[u64],
-        contents: &[u8],
-    ) -> Recorded
-        ensures { λ r. ⌜ Records self
-            (record { hash = hash; kind = kindOf kind; predecessors = now (preds .entry); contents = now (contents .entry) }) r ⌝ }
-    {
-        if 16 < preds.len() {
-            return Recorded {
-                answer: Answer::Refused(Refusal::ManyPredecessors),
-                guards: self,
-            };
-        }
-        if bad_contents(contents) {
-            return Recorded {
-                answer: Answer::Refused(Refusal::BadGuardContent),
-                guards: self,
-            };
-        }
-        let held = self.len;
-        let n = clamped(held);
-        let k = guard_at(self, n, hash);
-        if 64 <= k {
-            return Recorded {
-                answer: Answer::Refused(Refusal::GuardsFull),
-                guards: self,
-            };
-        }
-        let g = guard_of(kind, hash, preds, contents);
-        let mut guards = self.guards;
-        guards[k] = g;
-        let len = count_with(n, k);
-        Recorded {
+    if 16 < preds.len() {
+        return Recorded {
+            answer: Answer::Refused(Refusal::ManyPredecessors),
+            guards: guards,
+        };
+    }
+    if bad_contents(contents) {
+        return Recorded {
+            answer: Answer::Refused(Refusal::BadGuardContent),
+            guards: guards,
+        };
+    }
+    let g = guard_of(kind, preds, contents);
+    let held = guards.len;
+    let n = clamped(held);
+    let slots = guards.slots;
+    let k = find_slot(slots, n, hash);
+    if k < n {
+        return Recorded {
             answer: Answer::Recorded,
-            guards: Guards {
-                guards: guards,
-                len: len,
-            },
-        }
+            guards: put_at(guards, k, hash, g, n),
+        };
+    }
+    let kept = keep_live(guards);
+    let free = kept.len;
+    if 64 <= free {
+        return Recorded {
+            answer: Answer::Refused(Refusal::GuardsFull),
+            guards: guards,
+        };
+    }
+    let total = free + 1;
+    Recorded {
+        answer: Answer::Recorded,
+        guards: put_at(kept, free, hash, g, total),
     }
 }

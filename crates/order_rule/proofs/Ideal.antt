@@ -8,11 +8,11 @@ use mathlib.Core.Option.{Option, none, some}
 use lib.ListN.{length}
 use Rattle.lists.specs.Bytes.{Bytes, eqBytes}
 use Rattle.lists.proofs.ByteOrder.{eqBytes-of, eqBytes-true, eqBytes-refl, clash}
-use Rattle.gap_quarantine.specs.Frames.{Frame, Entry, Guard, Visit}
-use Rattle.gap_quarantine.specs.Poll.{pollRule}
-use Rattle.gap_quarantine.specs.Rules.{onlyOf, evictRule, reorgRule, finalRule}
+use Rattle.frames.specs.Frames.{Frame, Entry, Guard, Visit}
+use Rattle.frames.specs.Poll.{pollRule}
+use Rattle.frames.specs.Rules.{onlyOf, evictRule, reorgRule, finalRule}
 use Rattle.lists.specs.Lists.{keep}
-use Rattle.gap_quarantine.specs.Store.{Store, SameStore, guardOf, dropGuard, putGuard, Call, push, poll, guard, enterTentative, evictSender, checkReorg, checkFinalized, Answer, total, rows, recorded, entered, frames, dead, refused, after, walk, walked, insert, fresh, enterFirst, anyEnters, effect, when, orElse, inputRefusal, roomRefusal, unless, Request, refusal, step, run, calls}
+use Rattle.frames.specs.Store.{Store, SameStore, guardOf, dropGuard, putGuard, Call, push, poll, guard, enterTentative, evictSender, checkReorg, checkFinalized, Answer, total, rows, recorded, entered, frames, dead, refused, after, walk, walked, insert, fresh, enterFirst, anyEnters, effect, when, orElse, inputRefusal, roomRefusal, unless, Request, refusal, step, run, calls}
 use Rattle.order_rule.specs.Orders.{shown, transcript, aboutRoom, EnoughRoom}
 
 abbrev pub Guards : Type 0

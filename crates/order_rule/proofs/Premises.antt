@@ -12,11 +12,11 @@ use Rattle.lists.specs.Lists
 use Rattle.lists.specs.Lists.{keep}
 use Rattle.lists.proofs.ByteOrder.{eqBytes-true}
 use Rattle.lists.proofs.Elements.{keep-none}
-use Rattle.gap_quarantine.specs.Frames.{Frame, Entry, degraded}
-use Rattle.gap_quarantine.specs.Poll
-use Rattle.gap_quarantine.specs.Rules
-use Rattle.gap_quarantine.specs.Store
-use Rattle.gap_quarantine.specs.Store.{empty, isTracked, Call, push, Answer, Request, run, calls}
+use Rattle.frames.specs.Frames.{Frame, Entry, degraded}
+use Rattle.frames.specs.Poll
+use Rattle.frames.specs.Rules
+use Rattle.frames.specs.Store
+use Rattle.frames.specs.Store.{empty, isTracked, Call, push, Answer, Request, run, calls}
 use Rattle.order_rule.specs.Orders
 use Rattle.order_rule.specs.Orders.{Key, sender, pushOf, ownerIn, keyBy, OneSender, Keyed, nothing, also, rest, cut, transcript, aboutRoom, EnoughRoom}
 use Rattle.order_rule.specs.Premises

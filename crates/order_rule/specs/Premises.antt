@@ -6,8 +6,8 @@ use mathlib.Core.List.{List, [], _∷_, _++_}
 use mathlib.Core.Option.{none}
 use lib.ListN.{replicate}
 use Rattle.lists.specs.Bytes.{Bytes}
-use Rattle.gap_quarantine.specs.Frames.{Frame, mined}
-use Rattle.gap_quarantine.specs.Store.{empty, SameStore, Call, push, poll, enterTentative, checkReorg, checkFinalized, evictSender, Request, run, calls}
+use Rattle.frames.specs.Frames.{Frame, mined}
+use Rattle.frames.specs.Store.{empty, SameStore, Call, push, poll, enterTentative, checkReorg, checkFinalized, evictSender, Request, run, calls}
 use Rattle.order_rule.specs.Orders.{Key, ownerIn, keyBy, OneSender, ofKey, TwoOrders, EnoughRoom}
 
 -- ---- what is said of two lists

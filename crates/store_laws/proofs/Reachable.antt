@@ -12,8 +12,8 @@ use Rattle.lists.specs.Bytes.{Bytes, eqBytes, leBytes}
 use Rattle.lists.specs.Lists.{keep, isEmpty, Each}
 use Rattle.lists.proofs.ByteOrder.{eqBytes-true}
 use Rattle.lists.proofs.Elements.{length-keep}
-use Rattle.gap_quarantine.specs.Frames.{Frame, Entry, Guard, Visit}
-use Rattle.gap_quarantine.specs.Store.{Store, empty, Call, push, poll, guard, enterTentative, checkReorg, checkFinalized, evictSender, Request, Answer, guardOf, dropGuard, putGuard, walk, walked, insert, fresh, anyEnters, effect, when, orElse, wideGap, noRoomFor, inputRefusal, roomRefusal, refusal, unless, step, run}
+use Rattle.frames.specs.Frames.{Frame, Entry, Guard, Visit}
+use Rattle.frames.specs.Store.{Store, empty, Call, push, poll, guard, enterTentative, checkReorg, checkFinalized, evictSender, Request, Answer, guardOf, dropGuard, putGuard, walk, walked, insert, fresh, anyEnters, effect, when, orElse, wideGap, noRoomFor, inputRefusal, roomRefusal, refusal, unless, step, run}
 use Rattle.order_rule.proofs.Ideal.{Ideal, view, seen, effectᵢ, effect-view}
 use Rattle.order_rule.proofs.Invariant.{Thinner, nothing, skip, also, thinner-each, insert-each, Change, thinned, inserted, change}
 use Rattle.order_rule.proofs.Theorem.{run-sorted}

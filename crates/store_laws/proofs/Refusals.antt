@@ -6,8 +6,8 @@ use mathlib.Core.List.{List, [], _∷_}
 use mathlib.Core.Option.{Option, none, some, Option·some-injective, Option·none-ne-some}
 use Rattle.lists.specs.Lists.{isIn}
 use Rattle.lists.proofs.ByteOrder.{clash}
-use Rattle.gap_quarantine.specs.Store.{Store, Call, push, poll, guard, enterTentative, checkReorg, checkFinalized, evictSender, when, orElse, inputRefusal, roomRefusal, refusal, unless, step}
-use Rattle.gap_quarantine.specs.Reading.{blocksRefusal, sendersRefusal, gapRefusal}
+use Rattle.frames.specs.Store.{Store, Call, push, poll, guard, enterTentative, checkReorg, checkFinalized, evictSender, when, orElse, inputRefusal, roomRefusal, refusal, unless, step}
+use Rattle.frames.specs.Reading.{blocksRefusal, sendersRefusal, gapRefusal}
 use Rattle.store_laws.specs.Refusals.{placeNumbers, RefusedByPlace, RefusedByInputs, ReadingRefused, RefusedChangesNothing}
 
 -- a refusal, if there is one, is among these numbers

@@ -7,10 +7,10 @@ use Rattle.wire.specs.HashText as wire-HashText
 use Rattle.layout.specs.Layout as layout-Layout
 use Rattle.journal_record.specs.Reading as journal-record-Reading
 use Rattle.journal_record.specs.Writing as journal-record-Writing
-use Rattle.gap_quarantine.specs.Frames as gap-quarantine-Frames
-use Rattle.gap_quarantine.specs.Poll as gap-quarantine-Poll
-use Rattle.gap_quarantine.specs.Rules as gap-quarantine-Rules
-use Rattle.gap_quarantine.specs.Store as gap-quarantine-Store
+use Rattle.frames.specs.Frames as gap-quarantine-Frames
+use Rattle.frames.specs.Poll as gap-quarantine-Poll
+use Rattle.frames.specs.Rules as gap-quarantine-Rules
+use Rattle.frames.specs.Store as gap-quarantine-Store
 use Rattle.gap_quarantine_journal.specs.Pending as gap-quarantine-journal-Pending
 use Rattle.gap_quarantine_journal.specs.Fold as gap-quarantine-journal-Fold
 use Rattle.gap_quarantine_journal.specs.Restore as gap-quarantine-journal-Restore

@@ -6,8 +6,8 @@ use mathlib.Core.Option.{Option, none, some}
 use lib.ListN.{length, replicate}
 use Rattle.lists.specs.Bytes.{Bytes}
 use Rattle.wire.specs.Numbers.{digits}
-use Rattle.gap_quarantine.specs.Frames.{Frame, Consumed, mined, reparked, Decision, Row, Entry}
-use Rattle.gap_quarantine.specs.Store.{Store, empty, Call, Request, push, poll, guard, enterTentative, Answer, step, run}
+use Rattle.frames.specs.Frames.{Frame, Consumed, mined, reparked, Decision, Row, Entry}
+use Rattle.frames.specs.Store.{Store, empty, Call, Request, push, poll, guard, enterTentative, Answer, step, run}
 use Rattle.journal_record.specs.Records.{Fidelity, full, degraded, Park, resolveMark, legacyMark}
 use Rattle.journal_record.specs.Writing.{parkBytes}
 use Rattle.gap_quarantine_journal.specs.Fold.{Folded, Counts, Outcome, folded, refused, foldJournal}

@@ -1,4 +1,4 @@
-use Rattle.gap_quarantine.specs.View.{guardsSeen}
+use Rattle.frames.specs.View.{guardsSeen}
 use borrow.Author.Needs.{needs}
 use Rattle.gap_quarantine.proofs.Quarantine.expected_boundary.Statement.{statement}
 use Rattle.gap_quarantine.proofs.Quarantine.expected_boundary.Tie as tie

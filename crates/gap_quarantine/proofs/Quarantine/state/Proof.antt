@@ -1,4 +1,4 @@
-use Rattle.gap_quarantine.specs.View.{guardsSeen}
+use Rattle.frames.specs.View.{guardsSeen}
 use borrow.Author.Needs.{needs}
 use Rattle.gap_quarantine.proofs.Quarantine.state.Statement.{statement}
 use Rattle.gap_quarantine.proofs.Quarantine.state.Tie as tie

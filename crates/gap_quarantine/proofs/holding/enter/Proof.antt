@@ -1,7 +1,6 @@
 use native.Mathlib.Omega.{arith}
-use mathlib.Core.Path.{_∙_}
 use Rattle.lists.proofs.Compacting.{long}
-use Rattle.gap_quarantine.proofs.Sweeping.{noEntry}
+use Rattle.passes.proofs.Sweeping.{noEntry}
 use Rattle.gap_quarantine.proofs.Entering.{absent, present}
 use borrow.Author.Needs.{needs}
 use Rattle.gap_quarantine.proofs.holding.enter.Statement.{statement}
@@ -11,12 +10,10 @@ clamped-requires : tie.Need-clamped-requires
 clamped-requires c κs = search needs
 
 entering-requires : tie.Need-entering-requires
-entering-requires c κs = omega (arith, (c .before) .clamped .ensures)
+entering-requires c κs = search needs
 
 returns : tie.Need-returns
-returns c =
-    let s = (c .before .before .before .before .before .before) in
-    absent (s .args .q) _ _ _ _ (search (needs, long)) ((c .before .before .before) .clamped .ensures) ((c .before) .entering .ensures) (c .if1 .taken)
+returns c = absent ((c .before .before .before .before .before) .args .q) _ _ _ _ (search (needs, long)) ((c .before .before .before) .clamped .ensures) ((c .before) .entering .ensures) (c .if1 .taken)
 
 mul-e : tie.Need-mul-e
 mul-e c = search needs
@@ -33,21 +30,14 @@ mul-entries c = search needs
 array-set-from-entries : tie.Need-array-set-from-entries
 array-set-from-entries c = search needs
 
-slots-of-requires : tie.Need-slots-of-requires
-slots-of-requires c κs = search needs
-
 drop-slots-requires : tie.Need-drop-slots-requires
 drop-slots-requires c κs = search needs
 
-keep-live-requires : tie.Need-keep-live-requires
-keep-live-requires c κs = search needs
-
 returns-2 : tie.Need-returns-2
 returns-2 c =
-    let s = (c .before .before .before .before .before .before .before .before .before .before .before) in
-    present (s .args .q) _ _ _ _ (search (needs, long)) ((c .before .before .before .before .before .before .before .before) .clamped .ensures) ((c .before .before .before .before .before .before) .entering .ensures) noEntry
-    ((c .before .before .before) .made-tentative .result) _ (c .keep-live .result) ((c .before .before .before .before .before) .if1 .left) ((c .before .before .before) .made-tentative .ensures)
-    ((c .before) .drop-slots .ensures ∙ rw ((c .before .before) .slots-of .ensures)) (c .keep-live .ensures)
+    let s = (c .before .before .before .before .before .before .before .before .before .before) in
+    present ((c .before .before .before .before .before .before .before .before .before .before) .args .q) _ _ _ _ (search (needs, long)) ((c .before .before .before .before .before .before .before .before) .clamped .ensures) ((c .before .before .before .before .before .before) .entering .ensures) noEntry
+    ((c .before .before .before) .made-tentative .result) ((c .before) .drop-slots .result) ((c .before .before .before .before .before) .if1 .left) ((c .before .before .before) .made-tentative .ensures) ((c .before) .drop-slots .ensures)
 
 pub enter-spec : {M : Type 1} → statement M
 enter-spec =
@@ -61,7 +51,5 @@ enter-spec =
     made-tentative-requires
     mul-entries
     array-set-from-entries
-    slots-of-requires
     drop-slots-requires
-    keep-live-requires
     returns-2)

@@ -1,4 +1,4 @@
-use Rattle.gap_quarantine.specs.Answers.{takerNumber}
+use Rattle.frames.specs.Answers.{takerNumber}
 use borrow.Author.Needs.{needs}
 use Rattle.gap_quarantine.proofs.listing.kind_of.Statement.{statement}
 use Rattle.gap_quarantine.proofs.listing.kind_of.Tie as tie

@@ -1,4 +1,4 @@
-use Rattle.gap_quarantine.specs.Answers.{takerHash}
+use Rattle.frames.specs.Answers.{takerHash}
 use borrow.Author.Needs.{needs}
 use Rattle.gap_quarantine.proofs.listing.taker_of.Statement.{statement}
 use Rattle.gap_quarantine.proofs.listing.taker_of.Tie as tie

@@ -3,8 +3,8 @@ use native.Mathlib.Omega.{arith}
 use lib.ListN.{length-set}
 use Rattle.lists.proofs.Compacting.{long}
 use Rattle.lists.proofs.Writing.{Wrote, start, wrote-all}
-use Rattle.gap_quarantine.specs.Answers.{deadNumbers}
-use Rattle.gap_quarantine.specs.Passes.{deadOf}
+use Rattle.frames.specs.Answers.{deadNumbers}
+use Rattle.passes.specs.Passes.{deadOf}
 use Rattle.gap_quarantine.proofs.Listed.{dead-more}
 use borrow.Author.Needs.{needs}
 use Rattle.gap_quarantine.proofs.listing.write_dead.Statement.{statement}

@@ -2,8 +2,8 @@ use Prim.Native.Nat.{_-_}
 use native.Mathlib.Omega.{arith}
 use Rattle.lists.proofs.Compacting.{long}
 use Rattle.lists.proofs.Writing.{Wrote, start, wrote-all}
-use Rattle.gap_quarantine.specs.Answers.{deadBytes}
-use Rattle.gap_quarantine.specs.Passes.{deadOf}
+use Rattle.frames.specs.Answers.{deadBytes}
+use Rattle.passes.specs.Passes.{deadOf}
 use Rattle.gap_quarantine.proofs.Listed.{hashes-more}
 use borrow.Author.Needs.{needs}
 use Rattle.gap_quarantine.proofs.listing.write_hashes.Statement.{statement}

@@ -1,8 +1,8 @@
 use Prim.Native.Nat.{_-_}
 use Rattle.lists.proofs.Compacting.{long}
 use Rattle.lists.proofs.Writing.{Wrote, start, wrote-all}
-use Rattle.gap_quarantine.specs.Answers.{ticketNumbers}
-use Rattle.gap_quarantine.specs.View.{frameOf}
+use Rattle.frames.specs.Answers.{ticketNumbers}
+use Rattle.frames.specs.View.{frameOf}
 use Rattle.gap_quarantine.proofs.Listed.{ticket-more}
 use borrow.Author.Needs.{needs}
 use Rattle.gap_quarantine.proofs.listing.write_tickets.Statement.{statement}

@@ -1,5 +1,5 @@
 use borrow.Author.Tests.{not-true, not-false, lt-ltb, le-ltb}
-use Rattle.gap_quarantine.specs.Store.{badContent}
+use Rattle.frames.specs.Store.{badContent}
 use borrow.Author.Needs.{needs}
 use Rattle.gap_quarantine.proofs.poll.bad_content.Statement.{statement}
 use Rattle.gap_quarantine.proofs.poll.bad_content.Tie as tie

@@ -4,9 +4,9 @@ use mathlib.Core.Path.{_≡_, sym, _∙_}
 use mathlib.Core.List.{map}
 use lib.ListN.{length, take, drop}
 use Rattle.lists.proofs.Compacting.{long, clamp}
-use Rattle.gap_quarantine.specs.Store.{entriesOf}
-use Rattle.gap_quarantine.specs.View.{entryOf}
-use Rattle.gap_quarantine.proofs.Sweeping.{noEntry}
+use Rattle.frames.specs.Store.{entriesOf}
+use Rattle.frames.specs.View.{entryOf}
+use Rattle.passes.proofs.Sweeping.{noEntry}
 use Rattle.gap_quarantine.proofs.PollSteps.{count-hit, count-miss, count-none}
 use borrow.Author.Needs.{needs}
 use Rattle.gap_quarantine.proofs.poll.count_of.Statement.{statement}

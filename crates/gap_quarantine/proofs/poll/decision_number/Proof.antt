@@ -1,4 +1,4 @@
-use Rattle.gap_quarantine.specs.Answers.{decisionNumber}
+use Rattle.frames.specs.Answers.{decisionNumber}
 use borrow.Author.Needs.{needs}
 use Rattle.gap_quarantine.proofs.poll.decision_number.Statement.{statement}
 use Rattle.gap_quarantine.proofs.poll.decision_number.Tie as tie

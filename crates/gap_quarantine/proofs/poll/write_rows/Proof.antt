@@ -4,8 +4,8 @@ use mathlib.Core.Path.{_≡_, sym, ap, _∙_}
 use lib.ListN.{length}
 use Rattle.lists.proofs.Compacting.{long}
 use Rattle.lists.proofs.Writing.{Wrote, start, wrote-more, wrote-all}
-use Rattle.gap_quarantine.specs.Answers.{rowNumbers}
-use Rattle.gap_quarantine.specs.PollRows.{rowSeen}
+use Rattle.frames.specs.Answers.{rowNumbers}
+use Rattle.passes.specs.PollRows.{rowSeen}
 use borrow.Author.Needs.{needs}
 use Rattle.gap_quarantine.proofs.poll.write_rows.Statement.{statement}
 use Rattle.gap_quarantine.proofs.poll.write_rows.Tie as tie

@@ -12,7 +12,7 @@ contents-of-requires c κs = good-contents _ ((c .before .before .before) .pre .
 returns : tie.Need-returns
 returns c =
     let a = (c .before .before .before .before) .args in
-    made-guard (a .kind) (a .hash) (a .preds .now) ((c .before) .preds-of .result) (a .contents .now) (c .contents-of .result) ((c .before .before .before .before) .pre .1) ((c .before) .preds-of .ensures) (c .contents-of .ensures)
+    made-guard (a .kind) (a .preds .now) ((c .before) .preds-of .result) (a .contents .now) (c .contents-of .result) ((c .before .before .before .before) .pre .1) ((c .before) .preds-of .ensures) (c .contents-of .ensures)
 
 pub guard-of-spec : {M : Type 1} → statement M
 guard-of-spec = tie.close (tie.spec preds-of-requires contents-of-requires returns)

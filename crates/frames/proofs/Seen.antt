@@ -1,0 +1,30 @@
+-- What the views of the code's values come to.
+use mathlib.Core.Path.{_≡_, refl, sym, ap, _∙_}
+use native.Mathlib.Omega.{arith}
+use mathlib.Core.List.{List, append-assoc, map}
+use Prim.Native.Nat.{ℕ, _≤_}
+use lib.ListN.{length, take, drop, length-take, length-map}
+use lib.Seq.{paste, take-length, drop-drop}
+use Rattle.lists.specs.Bytes.{Bytes}
+use Rattle.lists.specs.Lists.{written, writtenAt}
+use Rattle.frames.specs.View.{consumedOf, blockOf}
+use Rattle.frames.specs.declared.NonceConsumed.{NonceConsumed}
+use Rattle.frames.specs.declared.NonceConsumed.the-variants.{MinedAt, SlotTakenAt, SlotTakenBy}
+
+pub block-seen : (c : NonceConsumed) (h t : Bytes) → consumedOf c h t .block ≡ blockOf c
+block-seen (MinedAt b) h t = refl
+block-seen (SlotTakenAt b) h t = refl
+block-seen (SlotTakenBy b) h t = refl
+
+pub hash-seen : (c : NonceConsumed) (h t : Bytes) → consumedOf c h t .blockHash ≡ h
+hash-seen (MinedAt b) h t = refl
+hash-seen (SlotTakenAt b) h t = refl
+hash-seen (SlotTakenBy b) h t = refl
+
+-- how many are listed
+pub listed-count : {X A : Type 0} (item : X → A) (l : List X) (m : List A) (n : ℕ) → length l ≡ 64 → n ≤ 64 → map item (take n l) ≡ m → length m ≡ n
+listed-count item l m n z b e = sym (ap length e) ∙ simp (length-map, length-take) (omega arith)
+
+-- bytes copied to a place
+pub pasted : (out : Bytes) (at : ℕ) (l : Bytes) → paste out at l (length l) ≡ writtenAt at l out
+pasted out at l = rw (take-length l, drop-drop (length l) at out, append-assoc)

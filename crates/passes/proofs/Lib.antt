@@ -1,0 +1,5 @@
+pub mod Passing
+pub mod Sweeping
+pub mod Visits
+pub mod Deciding
+pub mod PollTurns

@@ -1,0 +1,2 @@
+pub mod LiveGuards
+pub mod Matching
