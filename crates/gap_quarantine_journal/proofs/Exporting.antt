@@ -1,4 +1,4 @@
--- The exported function, way by way.
+-- The exported functions, way by way.
 use Prim.Native.Nat.{ℕ, _+_, _*_, _≤_, _<_}
 use native.Mathlib.Omega.{arith}
 use mathlib.Core.Path.{_≡_, _∙_}
@@ -16,10 +16,14 @@ use Rattle.refusal.specs.declared.Refusal.{Refusal}
 use Rattle.refusal.specs.declared.Refusal.the-variants.{WideGap, StoreFull, ManyKnown, BadContent, ShortSlice, ManyPredecessors, BadGuardContent, GuardsFull, LongJournal, UnknownMark, BadRecord, PendingFull, ShortOutput, BadHashText, NoSender, NoWire}
 use Rattle.journal_record.specs.View.{parkSeen}
 use Rattle.gap_quarantine_journal.specs.Fold.{roomFor, foldJournal, output}
-use Rattle.gap_quarantine_journal.specs.Export.{turnedAway, fiveTotals, exportedAs, exported}
-use Rattle.gap_quarantine_journal.specs.View.{parksSeen, FoldsRecords}
+use Rattle.gap_quarantine.specs.View.{frameOf}
+use Rattle.gap_quarantine_journal.specs.Restore.{restore}
+use Rattle.gap_quarantine_journal.specs.Export.{turnedAway, fiveTotals, exportedAs, exported, frameBytes, exportedFrameAs, exportedFrame}
+use Rattle.gap_quarantine_journal.specs.View.{parksSeen, FoldsRecords, restoredSeen}
 use Rattle.gap_quarantine_journal.specs.declared.change.FoldOutcome.the-variants as outcome
 use Rattle.gap_quarantine_journal.specs.declared.fold.FoldedJournal.{FoldedJournal}
+use Rattle.gap_quarantine_journal.specs.declared.restore.RestoreAnswer.the-variants as answer
+use Rattle.gap_quarantine_journal.specs.declared.restore.RestoredFrame.{RestoredFrame}
 
 -- ---- a refusal's number
 
@@ -61,7 +65,7 @@ five d d1 d2 d3 d4 d5 a b c e f l p1 p2 p3 p4 p5 =
     let whole : length d ≤ length (collect (digits 8) xs) = omega (arith, w5 .sized) in
     wrote-all (λ x. x) (digits 8) 8 xs 5 d d5 5 w5 (omega arith) ∙ rw (drop-of-length-le d whole, append-nil)
 
--- ---- the ways
+-- ---- the fold's ways
 
 module _ (j out totals : Bytes) where
   pub too-long : 65536 < length j → exported j out totals ≡ turnedAway 9 65536 out totals
@@ -97,3 +101,19 @@ module _ (j out totals : Bytes) where
         unfolding exported foldJournal roomFor exportedAs fiveTotals
         went n out′ totals′ p q =
             rw (le-ltb 65536 (length j) h, ← g .is, o, le-ltb (length out) (240 * length (parksSeen (f .pending))) room, eq-eqb (length totals) 40 n, count, p, q)
+
+-- ---- restore's ways
+
+module _ (bs frame : Bytes) (r : RestoredFrame) (is : restoredSeen r ≡ restore bs) where
+  pub frame-refused : (x : Refusal) → r .answer ≡ answer.Refused x → exportedFrame bs frame ≡ record { code = refusalNumber x; frame = frame }
+  unfolding exportedFrame exportedFrameAs
+  frame-refused x o = rw (← is, o)
+
+  module _ (o : r .answer ≡ answer.Restored) where
+    pub frame-short : (length frame ≡ 92 → ⊥) → exportedFrame bs frame ≡ record { code = 13; frame = frame }
+    unfolding exportedFrame exportedFrameAs
+    frame-short n = rw (← is, o, ne-eqb (length frame) 92 n)
+
+    pub frame-went : length frame ≡ 92 → (frame′ : Bytes) → frame′ ≡ frameBytes (frameOf (r .frame)) → record { code = 0; frame = frame′ } ≡ exportedFrame bs frame
+    unfolding exportedFrame exportedFrameAs
+    frame-went n frame′ w = rw (← is, o, eq-eqb (length frame) 92 n, w)

@@ -1,13 +1,19 @@
--- What the exported function returns, and what it leaves in the two slices lent to it.
+-- What the exported functions return, and what they leave in the slices lent to them.
 use Prim.Native.Nat.{ℕ, _+_, _*_}
 use mathlib.Core.Bool.{cond}
-use mathlib.Core.List.{List, [], _∷_, _++_}
+use mathlib.Core.List.{List, [], _∷_}
 use lib.Dec.{eqb}
 use lib.ListN.{length}
 use Rattle.lists.specs.Bytes.{Bytes}
 use Rattle.lists.specs.Lists.{collect, written}
 use Rattle.wire.specs.Numbers.{digits}
+use Rattle.layout.specs.Layout.{join}
+use Rattle.gap_quarantine.specs.Frames.{Frame}
 use Rattle.gap_quarantine_journal.specs.Fold.{Folded, Outcome, folded, refused, foldJournal, output}
+use Rattle.gap_quarantine_journal.specs.Restore as restore
+use Rattle.gap_quarantine_journal.specs.Restore.{Restored, restored}
+
+-- ---- the fold
 
 pub record Exported : Type 0 where
   pub code : ℕ
@@ -32,3 +38,22 @@ exportedAs (folded s end) out totals =
 
 unfoldable pub exported : Bytes → Bytes → Bytes → Exported
 exported journal out totals = exportedAs (foldJournal journal (length out)) out totals
+
+-- ---- restore
+
+pub record ExportedFrame : Type 0 where
+  pub code : ℕ
+  pub frame : Bytes
+
+-- hash, from, expected, claim, chain_id, gas, ticket
+unfoldable pub frameBytes : Frame → Bytes
+frameBytes f =
+    join (f .hash ∷ f .from ∷ digits 8 (f .expected) ∷ digits 8 (f .claim) ∷ digits 8 (f .chainId) ∷ digits 8 (f .gas) ∷ digits 8 (f .ticket) ∷ [])
+
+-- 13, last, if the slice is not 92 bytes; a refusal writes nothing
+unfoldable pub exportedFrameAs : Restored → Bytes → ExportedFrame
+exportedFrameAs (restore.refused n) frame = record { code = n; frame = frame }
+exportedFrameAs (restored f) frame = cond (eqb (length frame) 92) (record { code = 0; frame = frameBytes f }) (record { code = 13; frame = frame })
+
+unfoldable pub exportedFrame : Bytes → Bytes → ExportedFrame
+exportedFrame bytes frame = exportedFrameAs (restore.restore bytes) frame

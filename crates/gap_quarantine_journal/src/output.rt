@@ -1,4 +1,4 @@
-// What a fold writes: the pending records and the totals, as bytes.
+// What the exported functions write: the pending records, the totals, and a frame, as bytes.
 ghost use mathlib.Core.Path.{_≡_};
 ghost use mathlib.Core.List.{[], _∷_};
 ghost use Prim.Native.Nat.{_+_, _*_, _≤_};
@@ -6,9 +6,12 @@ ghost use lib.ListN.{length};
 ghost use Rattle.lists.specs.Lists.{collect, written};
 ghost use Rattle.wire.specs.Numbers.{digits};
 ghost use Rattle.refusal.specs.Numbers.{refusalNumber};
+ghost use Rattle.gap_quarantine.specs.View.{frameOf};
+ghost use Rattle.gap_quarantine_journal.specs.Export.{frameBytes};
 ghost use Rattle.gap_quarantine_journal.specs.Fold.{output};
 ghost use Rattle.gap_quarantine_journal.specs.View.{parksSeen};
 use super::pending::PendingSet;
+use gap_quarantine::ParkedFrame;
 use refusal::Refusal;
 use totals::Totals;
 
@@ -37,6 +40,22 @@ pub(crate) fn write_totals(out: &mut [u8], pending: u64, sums: Totals, end: u64)
     wire::put_number(out, 16, 8, sums.migrated);
     wire::put_number(out, 24, 8, sums.degraded);
     wire::put_number(out, 32, 8, end);
+}
+
+// Writes a frame.
+pub(crate) fn write_frame(out: &mut [u8], f: ParkedFrame)
+    requires { ⌜ length (now out) ≡ 92 ⌝ }
+    ensures { λ _. ⌜ now (out .exit) ≡ frameBytes (frameOf f) ⌝ }
+{
+    let hash = f.hash;
+    let from = f.from;
+    wire::put_bytes(out, 0, &hash);
+    wire::put_bytes(out, 32, &from);
+    wire::put_number(out, 52, 8, f.expected);
+    wire::put_number(out, 60, 8, f.claim);
+    wire::put_number(out, 68, 8, f.chain_id);
+    wire::put_number(out, 76, 8, f.gas);
+    wire::put_number(out, 84, 8, f.ticket);
 }
 
 // A refusal's number and offset in one.
