@@ -1,23 +1,11 @@
 // Answers as text.
+pub(crate) use console::next;
+pub(crate) use console::number;
+pub(crate) use console::text;
 use gap_quarantine::Answer;
 use gap_quarantine::FrameState;
 use gap_quarantine::NonceConsumed;
-use libc::STDOUT_FILENO;
 use refusal::Refusal;
-
-pub(crate) fn text(t: &[u8]) {
-    io::write_all(STDOUT_FILENO, t);
-}
-
-pub(crate) fn number(n: u64) {
-    io::print_decimal(STDOUT_FILENO, n);
-}
-
-// A number with a space before it.
-pub(crate) fn next(n: u64) {
-    text(b" ");
-    number(n);
-}
 
 // A word and how many are listed.
 pub(crate) fn count(word: &[u8], n: usize) {
@@ -37,18 +25,10 @@ pub(crate) fn numbers(list: &[u64], count: usize) {
     }
 }
 
-fn wide(b: u8) -> u64 {
-    b as u64
-}
-
 // Bytes as lowercase hex digits, with a space before them.
 pub(crate) fn hex(bytes: &[u8]) {
     text(b" ");
-    let mut i = 0;
-    while i < bytes.len() {
-        io::print_hex(STDOUT_FILENO, wide(bytes[i]), 2);
-        i += 1;
-    }
+    console::hex(bytes);
 }
 
 pub(crate) fn refused(x: Refusal) {

@@ -4,7 +4,8 @@
 //! The sample has document 01's examples, a smallest input for each wrong rule, inputs at each limit, and random ones.
 use beside::hex::hex;
 use beside::journal::original::Original as Journal;
-use beside::journal::outcome::{line, Restored};
+use beside::journal::outcome::{line, with_room, Restored, ENOUGH, JOURNAL_LIMIT};
+use beside::journal::records::{Record, PARK_SIZE};
 use beside::journal::{self, strength as journals};
 use beside::scratch::Scratch;
 use beside::store::answers::Answer;
@@ -24,10 +25,12 @@ const SEED: u64 = 1_000_000;
 const RANDOM_SCRIPTS: u64 = 8;
 const RANDOM_JOURNALS: u64 = 30;
 
-/// The refusals that a script, and a journal, can meet: slices are always long enough.
+/// The refusals that a script can meet, whose slices are always long enough.
 const STORE_REFUSALS: [u8; 7] = [1, 2, 3, 4, 6, 7, 8];
-const FOLD_REFUSALS: [u8; 4] = [9, 10, 11, 12];
-const RESTORE_REFUSALS: [u8; 2] = [14, 15];
+
+/// The refusals that random journals with a long output, and records alone, meet.
+const FOLD_REFUSALS: [u8; 3] = [10, 11, 12];
+const RESTORE_REFUSALS: [u8; 4] = [11, 14, 15, 16];
 
 // ---- scripts
 
@@ -75,57 +78,122 @@ fn freeze_scripts(folder: &Path) {
 
 // ---- journals
 
-/// The fold's line, then for each pending record its bytes and what restore answers.
-fn journal_lines(number: usize, bytes: &[u8], journal: &Journal) -> String {
-    let (fold, restored) = journal.fold(bytes, number as u64);
-    let mut text = format!("== {number}\n{}\n", line(&fold));
-    let pending = fold.map_or(Vec::new(), |f| f.pending);
-    for (record, restored) in pending.iter().zip(&restored) {
-        writeln!(text, "{}", hex(record)).expect("a string takes all");
-        writeln!(text, "restore {}", frame(restored)).expect("a string takes all");
-    }
-    text
+/// What the journals' input is made of.
+enum Item {
+    /// A journal, and how many bytes are lent to its fold.
+    Journal(Vec<u8>, usize),
+    /// One record to restore.
+    Park(Vec<u8>),
 }
 
-fn frame(restored: &Restored) -> String {
-    match restored {
-        Err(number) => format!("refused {number}"),
-        Ok(bytes) => {
-            let mut text = format!("{} {}", hex(&bytes[..32]), hex(&bytes[32..52]));
-            for n in bytes[52..].chunks(8) {
-                write!(text, " {}", u64::from_le_bytes(n.try_into().expect("8 bytes"))).expect("a string takes all");
-            }
-            text
+impl Item {
+    fn bytes(&self) -> Vec<u8> {
+        let (kind, bytes) = match self {
+            Item::Journal(bytes, _) => (0, bytes),
+            Item::Park(bytes) => (1, bytes),
+        };
+        let mut out = vec![kind];
+        out.extend((bytes.len() as u32).to_le_bytes());
+        if let Item::Journal(_, room) = self {
+            out.extend((*room as u16).to_le_bytes());
+        }
+        out.extend(bytes);
+        out
+    }
+
+    fn lines(&self, number: usize, original: &Journal) -> String {
+        let head = format!("== {number}\n");
+        match self {
+            Item::Journal(bytes, room) => head + &journal_lines(number, bytes, *room, original),
+            Item::Park(bytes) => head + &restore_line(&original.restore(bytes, number as u64)),
         }
     }
 }
 
-fn journal_list(original: &Journal) -> Vec<Vec<u8>> {
+/// The fold's line, then for each pending record its bytes and what restore answers.
+fn journal_lines(number: usize, bytes: &[u8], room: usize, original: &Journal) -> String {
+    let (fold, restored) = original.fold(bytes, number as u64);
+    let fold = with_room(fold, room, 40);
+    let mut text = line(&fold) + "\n";
+    let pending = fold.map_or(Vec::new(), |f| f.pending);
+    for (record, restored) in pending.iter().zip(&restored) {
+        text += &(hex(record) + "\n");
+        text += &restore_line(restored);
+    }
+    text
+}
+
+fn restore_line(restored: &Restored) -> String {
+    match restored {
+        Err(number) => format!("restore refused {number}\n"),
+        Ok(bytes) => {
+            let mut text = format!("restore {} {}", hex(&bytes[..32]), hex(&bytes[32..52]));
+            for n in bytes[52..].chunks(8) {
+                write!(text, " {}", u64::from_le_bytes(n.try_into().expect("8 bytes"))).expect("a string takes all");
+            }
+            text + "\n"
+        }
+    }
+}
+
+/// A random journal that passes a test.
+fn found(test: impl Fn(&Vec<u8>) -> bool) -> Vec<u8> {
+    (SEED..).map(journal::generate::journal).find(test).expect("the seeds do not end")
+}
+
+fn folded(original: &Journal) -> Vec<Vec<u8>> {
     let mut list: Vec<Vec<u8>> = journal::examples::examples().into_iter().map(|e| e.journal).collect();
     for (wrong, says) in journal::wrong::ALL {
         let bytes = journals::smallest_for(*wrong, SEED, 30_000, original);
         list.push(bytes.unwrap_or_else(|| panic!("no journal tells: {says}")));
     }
     for number in FOLD_REFUSALS {
-        let refuses = |bytes: &Vec<u8>| matches!(original.fold(bytes, 0).0, Err((n, _)) if n == number);
-        list.push((SEED..).map(journal::generate::journal).find(refuses).expect("the seeds do not end"));
+        list.push(found(|bytes| matches!(original.fold(bytes, 0).0, Err((n, _)) if n == number)));
     }
-    for number in RESTORE_REFUSALS {
-        let refuses = |bytes: &Vec<u8>| original.fold(bytes, 0).1.contains(&Err(number));
-        list.push((SEED..).map(journal::generate::journal).find(refuses).expect("the seeds do not end"));
-    }
+    // 9: a byte more than a fold takes
+    let mut long = Record::Other(7).bytes().repeat(JOURNAL_LIMIT / 10 + 1);
+    long.truncate(JOURNAL_LIMIT + 1);
+    list.push(long);
     list.extend((SEED..).map(journal::generate::journal).filter(|b| b.len() < 5000).take(RANDOM_JOURNALS as usize));
+    list
+}
+
+/// 13: journals whose output is exactly long enough, a byte short, or empty.
+fn narrow(original: &Journal) -> Vec<Item> {
+    let bytes = found(|bytes| original.fold(bytes, 0).0.map_or(0, |f| f.pending.len()) == 2);
+    [2 * PARK_SIZE, 2 * PARK_SIZE - 1, 0].map(|room| Item::Journal(bytes.clone(), room)).into()
+}
+
+/// Records alone: each refusal, and a full and a degraded frame.
+fn parks(original: &Journal) -> Vec<Item> {
+    let found = |test: &dyn Fn(&Restored) -> bool| {
+        let park = (SEED..).find(|seed| test(&original.restore(&journal::generate::park_bytes(*seed), *seed)));
+        Item::Park(journal::generate::park_bytes(park.expect("the seeds do not end")))
+    };
+    let mut list: Vec<Item> = RESTORE_REFUSALS.iter().map(|number| found(&|r| *r == Err(*number))).collect();
+    // chain_id stands at 68
+    list.push(found(&|r| r.as_ref().is_ok_and(|frame| frame[68] != 0)));
+    list.push(found(&|r| r.as_ref().is_ok_and(|frame| frame[68] == 0)));
     list
 }
 
 fn freeze_journals(folder: &Path) {
     let scratch = Scratch::new();
     let original = Journal::new(scratch.path());
+    let mut list: Vec<Item> = folded(&original).into_iter().map(|bytes| Item::Journal(bytes, ENOUGH)).collect();
+    list.extend(narrow(&original));
+    list.extend(parks(&original));
     let (mut input, mut output) = (Vec::new(), String::new());
-    let list = journal_list(&original);
-    for (number, bytes) in list.iter().enumerate() {
-        input.extend_from_slice(&led(bytes));
-        output.push_str(&journal_lines(number, bytes, &original));
+    for (number, item) in list.iter().enumerate() {
+        input.extend(item.bytes());
+        output.push_str(&item.lines(number, &original));
+    }
+    // the input breaks off in an item's length
+    input.extend_from_slice(&[1, 0]);
+    output.push_str("bad input\n");
+    for number in 9..=16 {
+        let refused = [format!("refused {number} at"), format!("restore refused {number}\n")];
+        assert!(refused.iter().any(|line| output.contains(line)), "refusal {number} stands in the sample");
     }
     write(folder, &input, &output);
     println!("journals: {}, standard input {} bytes, output {} bytes", list.len(), input.len(), output.len());

@@ -1,0 +1,68 @@
+// The head of an item of standard input: its kind, the number of its bytes, and for a journal the output lent to its fold.
+use libc::STDIN_FILENO;
+
+// One byte more than a journal may have, so that a longer one is refused.
+pub(crate) const LONGEST: usize = 65537;
+
+pub(crate) struct Head {
+    pub(crate) is_journal: bool,
+    pub(crate) len: usize,
+    pub(crate) room: usize,
+    // how many bytes of standard input the item takes, its head included
+    pub(crate) size: usize,
+}
+
+// What comes next: an item, the end, or a head that breaks off or is over a limit.
+pub(crate) enum Next {
+    Item(Head),
+    End,
+    Bad,
+}
+
+fn journal_head(len: usize) -> Next {
+    let mut bytes = [0u8; 2];
+    if io::read_full(STDIN_FILENO, &mut bytes) < 2 {
+        return Next::Bad;
+    }
+    let room = wire::number(&bytes, 0, 2) as usize;
+    if LONGEST < len || 15360 < room {
+        return Next::Bad;
+    }
+    let head = Head {
+        is_journal: true,
+        len: len,
+        room: room,
+        size: 7 + len,
+    };
+    Next::Item(head)
+}
+
+fn park_head(len: usize) -> Next {
+    if LONGEST < len {
+        return Next::Bad;
+    }
+    let head = Head {
+        is_journal: false,
+        len: len,
+        room: 0,
+        size: 5 + len,
+    };
+    Next::Item(head)
+}
+
+pub(crate) fn next_head() -> Next {
+    let mut bytes = [0u8; 5];
+    let got = io::read_full(STDIN_FILENO, &mut bytes);
+    if got == 0 {
+        return Next::End;
+    }
+    if got < 5 {
+        return Next::Bad;
+    }
+    let len = wire::number(&bytes, 1, 4) as usize;
+    match bytes[0] {
+        0 => journal_head(len),
+        1 => park_head(len),
+        _ => Next::Bad,
+    }
+}
