@@ -1,6 +1,7 @@
 //! The published Rust and our static libraries on the same inputs, in one run: a line for each, with the ratio.
 //! FOLD_ARCHIVE and STORE_ARCHIVE name the libraries at build; without them only the Rust is timed.
 use alloy::primitives::{Address, B256};
+use beside::hex::hex;
 use beside::journal::generate;
 use beside::journal::lines;
 use beside::journal::original::Original;
@@ -12,6 +13,7 @@ use beside::scratch::Scratch;
 use beside::speed::store_loops::{store_loops, Loop};
 use published::gap_quarantine::{NonceConsumed, ParkedFrame, Quarantine};
 use published::gap_quarantine_journal::read_pending;
+use std::collections::BTreeSet;
 use std::fs;
 use std::hint::black_box;
 use std::time::Instant;
@@ -117,15 +119,29 @@ fn store() {
 
 // ---- the journal
 
-/// Journals of records that a test picks, each as long as a fold takes, with their lines.
+/// The key that a record may put into the pending set.
+fn key(record: &Record) -> Option<Vec<u8>> {
+    match record {
+        Record::Park(p) => Some(p.text.clone()),
+        Record::Legacy(l) => l.frame_hash.or(l.top_hash).map(|hash| format!("0x{}", hex(&hash)).into_bytes()),
+        _ => None,
+    }
+}
+
+/// Journals of records that a test picks, each as long as a fold takes and of at most 64 keys, with their lines.
 fn journals(count: usize, wanted: fn(&Record) -> bool) -> Vec<(Vec<u8>, Vec<String>)> {
     let mut list = Vec::new();
     let mut seed = 0;
     while list.len() < count {
-        let (mut bytes, mut text) = (Vec::new(), Vec::new());
+        let (mut bytes, mut text, mut keys) = (Vec::new(), Vec::new(), BTreeSet::new());
         while bytes.len() < 60_000 {
             let mut r = Random::new(seed);
             for record in generate::records(seed).iter().filter(|record| wanted(record)) {
+                let key = key(record);
+                if keys.len() == 64 && key.as_ref().is_some_and(|key| !keys.contains(key)) {
+                    continue;
+                }
+                keys.extend(key);
                 bytes.extend_from_slice(&record.bytes());
                 text.push(lines::line(record, &mut r));
             }
