@@ -1,4 +1,4 @@
-//! Links our static libraries, where variables name their files: FOLD_ARCHIVE has the C function of the journal, STORE_ARCHIVE
+//! Links our static libraries, where variables name their files: FOLD_ARCHIVE has the C functions of the journal, STORE_ARCHIVE
 //! the loops over store calls that the speed table times.
 use std::env;
 use std::path::Path;

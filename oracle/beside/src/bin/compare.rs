@@ -154,10 +154,10 @@ fn main() -> ExitCode {
     run.journal();
     let caught = run.strength();
     let beside = match (replay.is_some(), linked.is_some()) {
-        (true, true) => "the Rust beside replay, the C function of the fold and the model",
-        (true, false) => "the Rust beside replay (store) and the model; no C function was linked",
-        (false, true) => "the Rust beside the C function (fold) and the model; no replay was given",
-        (false, false) => "the Rust beside the model only; no replay was given and no C function was linked",
+        (true, true) => "the Rust beside replay, the C functions of fold and restore, and the model",
+        (true, false) => "the Rust beside replay (store) and the model; no C functions were linked",
+        (false, true) => "the Rust beside the C functions (fold, restore) and the model; no replay was given",
+        (false, false) => "the Rust beside the model only; no replay was given and no C functions were linked",
     };
     println!("{beside}: {}; {} differences", run.counts.join(", "), run.differences);
     match caught && run.differences == 0 {

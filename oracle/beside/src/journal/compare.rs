@@ -5,7 +5,7 @@ use super::layout::{read, Reading};
 use super::model::Model;
 use super::original::Original;
 use super::ours::Ours;
-use super::outcome::{line, with_room, written, Fold, Restored, Written, ENOUGH, FILL};
+use super::outcome::{handed, line, with_room, written, Fold, Restored, Written, ENOUGH, FILL};
 use super::records::{Record, PARK_SIZE};
 use super::strength::show;
 use crate::hex::hex;
@@ -64,7 +64,7 @@ impl fmt::Display for Counts {
         write!(f, "{} journals, {} whole records {:?}; ", self.journals, self.records, self.marks)?;
         write!(f, "{} folded with an unfinished end; refusals {:?}; ", self.cut, self.refused)?;
         write!(f, "{} restores, refused {:?}; ", self.restores, self.restores_refused)?;
-        write!(f, "differences from the model {}, from the linked C function {}", self.model, self.ours)
+        write!(f, "differences from the model {}, from the linked C functions {}", self.model, self.ours)
     }
 }
 
@@ -138,19 +138,37 @@ fn one(bytes: &[u8], next: u64, original: &Original, ours: Option<&dyn Ours>, co
     }
     counts.see(bytes, &narrow);
     let pending = fold.map_or(Vec::new(), |f| f.pending);
-    for (record, expected) in pending.iter().zip(&restored) {
-        check_restore(record, expected, &model, counts);
+    let alone = park_bytes(next);
+    let answer = original.restore(&alone, next);
+    let pending = pending.iter().zip(&restored);
+    for (record, expected) in pending.chain(std::iter::once((&alone, &answer))) {
+        counts.see_restore(expected);
+        model_restores(record, expected, &model, counts);
+        if let Some(ours) = ours {
+            we_restore(record, expected, ours, &mut r, counts);
+        }
     }
-    let raw = park_bytes(next);
-    check_restore(&raw, &original.restore(&raw, next), &model, counts);
 }
 
-fn check_restore(record: &[u8], expected: &Restored, model: &Model, counts: &mut Counts) {
-    counts.see_restore(expected);
+fn model_restores(record: &[u8], expected: &Restored, model: &Model, counts: &mut Counts) {
     if model.restore(record) != *expected {
         counts.model += 1;
         if tell() {
             println!("DIFFERENCE in restore between the Rust and the model: {}: {}", hex(record), shown(expected));
+        }
+    }
+}
+
+/// On a slice of 92 bytes, or now and then of another length.
+fn we_restore(record: &[u8], expected: &Restored, ours: &dyn Ours, r: &mut Random, counts: &mut Counts) {
+    let length = if r.once_in(20) { r.index(95) } else { 92 };
+    let mut frame = vec![FILL; length];
+    let code = ours.restore(record, &mut frame);
+    if (code, frame.clone()) != handed(expected, length) {
+        counts.ours += 1;
+        if tell() {
+            println!("DIFFERENCE in restore between the Rust and the C function, slice {length}: {}", hex(record));
+            println!("  the Rust: {}; the C function returns {code} and leaves {}", shown(expected), hex(&frame));
         }
     }
 }

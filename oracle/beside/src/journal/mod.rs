@@ -1,4 +1,4 @@
-//! The journal: records, the Rust, a model of document 01, our C function, and where their inputs come from.
+//! The journal: records, the Rust, a model of document 01, our C functions, and where their inputs come from.
 mod brief;
 pub mod compare;
 pub mod examples;

@@ -1,8 +1,9 @@
-//! Our side of the journal: the C function of the static library, if one is linked.
+//! Our side of the journal: the C functions of the static library, if one is linked.
 
-/// A side that folds as the C function does, on lent slices.
+/// A side that folds and restores as the C functions do, on lent slices.
 pub trait Ours {
     fn fold(&self, journal: &[u8], out: &mut [u8], totals: &mut [u8]) -> u64;
+    fn restore(&self, record: &[u8], frame: &mut [u8]) -> u64;
 }
 
 #[cfg(fold_linked)]
@@ -16,6 +17,8 @@ mod linked {
             totals: *mut u8,
             totals_len: usize,
         ) -> u64;
+
+        fn gap_quarantine_restore(record: *const u8, record_len: usize, frame: *mut u8, frame_len: usize) -> u64;
     }
 
     pub struct Linked;
@@ -33,6 +36,11 @@ mod linked {
                     totals.len(),
                 )
             }
+        }
+
+        fn restore(&self, record: &[u8], frame: &mut [u8]) -> u64 {
+            // The slices are valid for their lengths, do not overlap, and the function keeps no pointer.
+            unsafe { gap_quarantine_restore(record.as_ptr(), record.len(), frame.as_mut_ptr(), frame.len()) }
         }
     }
 }

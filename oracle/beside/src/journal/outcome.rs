@@ -39,7 +39,7 @@ pub fn with_room(fold: Fold, out: usize, totals: usize) -> Fold {
     Ok(folded)
 }
 
-/// What the C function leaves in the two slices, and what it returns.
+/// What the fold leaves in the two slices, and what it returns.
 #[derive(Clone, Debug, PartialEq, Eq)]
 pub struct Written {
     pub code: u64,
@@ -62,6 +62,15 @@ pub fn written(fold: &Fold, out: usize, totals: usize) -> Written {
         }
     }
     w
+}
+
+/// What restore returns, and what it leaves in the slice lent to it; 13, last: the slice is not 92 bytes.
+pub fn handed(restored: &Restored, frame: usize) -> (u64, Vec<u8>) {
+    match restored {
+        Err(number) => (u64::from(*number), vec![FILL; frame]),
+        Ok(bytes) if bytes.len() == frame => (0, bytes.clone()),
+        Ok(_) => (13, vec![FILL; frame]),
+    }
 }
 
 /// Document 01's line of the program.
