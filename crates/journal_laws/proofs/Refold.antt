@@ -11,7 +11,7 @@ use lib.Seq.{take-at, drop-at}
 use borrow.Author.Tests.{le-ltb, eq-eqb}
 use Rattle.lists.specs.Bytes.{Bytes, eqBytes, leBytes}
 use Rattle.lists.specs.Lists.{Each, collect}
-use Rattle.lists.proofs.ByteOrder.{clash, eqBytes-of, leBytes-antisym}
+use Rattle.lists.proofs.ByteOrder.{clash, eqBytes-of, leBytes-antisym, eqBytes-sym}
 use Rattle.lists.proofs.Keeping.{each-append, each-map}
 use Rattle.wire.specs.HashText.{parseHash}
 use Rattle.layout.specs.Layout.{join}
@@ -25,7 +25,7 @@ use Rattle.journal_laws.specs.Keys.{Before, Ascending}
 use Rattle.journal_laws.specs.Refolding.{Refolding, NoSixteen}
 use Rattle.journal_laws.proofs.Steps.{sizes, step-whole}
 use Rattle.journal_laws.proofs.Folds.{fold-none, folds, folds-of}
-use Rattle.journal_laws.proofs.KeyOrder.{eqBytes-sym, fold-order}
+use Rattle.journal_laws.proofs.KeyOrder.{fold-order}
 use Rattle.journal_laws.proofs.RoundTrip.{park-fits, park-long, park-version, park-back}
 use Rattle.journal_laws.proofs.Settling.{Settled, settled-stays, fold-settled}
 
@@ -67,7 +67,7 @@ unfolding putPark
 put-last [] p ps h = refl
 put-last (q ∷ qs) p ps h =
     let b = each-append (λ x. Before (q .text) (x .text)) qs (p ∷ ps) (h .0) .1 .0 in
-    rw (eqBytes-sym (q .text) (p .text) (b .1), not-before (q .text) (p .text) b, put-last qs p ps (h .1))
+    rw (eqBytes-sym (p .text) (q .text), b .1, not-before (q .text) (p .text) b, put-last qs p ps (h .1))
   where
     not-before : (x y : Bytes) → Before x y → leBytes y x ≡ false
     not-before x y b = go (leBytes y x) refl

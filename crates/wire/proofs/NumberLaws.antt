@@ -1,5 +1,5 @@
 -- Numbers and their bytes, there and back.
-use Prim.Native.Nat.{ℕ, zero, suc, _+_, _*_, _^_, _<_, _/_, _%_}
+use Prim.Native.Nat.{ℕ, zero, suc, _^_, _<_, _/_}
 use native.Mathlib.Omega.{arith}
 use native.Mathlib.Nat.{pow-suc}
 use mathlib.Core.Path.{_≡_, refl, ap}
@@ -24,15 +24,6 @@ num-digits zero n h = omega arith
 num-digits (suc w) n h =
     let q : n / 256 < 256 ^ w = omega (arith, pow-suc 256 w) in
     rw (num-digits w (n / 256) q) (omega arith)
-
-pub digits-num : (bs : Bytes) → Each IsByte bs → digits (length bs) (num bs) ≡ bs
-unfolding num digits
-digits-num [] h = refl
-digits-num (b ∷ bs) h =
-    let l = h .0 in
-    let m : (b + 256 * num bs) % 256 ≡ b = omega arith in
-    let d : (b + 256 * num bs) / 256 ≡ num bs = omega arith in
-    rw (m, d, digits-num bs (h .1))
 
 -- so many bytes stand for a number below 256 to that power
 pub num-below : (bs : Bytes) → Each IsByte bs → num bs < 256 ^ length bs
