@@ -2,15 +2,13 @@
 use Prim.Native.Nat.{ℕ, _+_, _*_, _≤_, _<_}
 use native.Mathlib.Omega.{arith}
 use mathlib.Core.Path.{_≡_, _∙_}
-use mathlib.Core.List.{List, [], _∷_, append-assoc, append-nil}
-use lib.ListN.{length, take, drop, length-map, drop-of-length-le}
+use mathlib.Core.List.{List, [], _∷_, append-assoc}
+use lib.ListN.{length, take, drop, length-map}
 use lib.Seq.{paste, take-all, drop-drop, length-take-le}
 use borrow.Author.Tests.{lt-ltb, le-ltb, eq-eqb, ne-eqb}
 use Rattle.lists.specs.Bytes.{Bytes}
 use Rattle.lists.specs.Lists.{collect, written, writtenAt}
-use Rattle.lists.proofs.Writing.{start, wrote-more, wrote-all}
 use Rattle.wire.specs.Numbers.{digits}
-use Rattle.wire.proofs.NumberLaws.{length-digits}
 use Rattle.refusal.specs.Numbers.{refusalNumber}
 use Rattle.refusal.specs.declared.Refusal.{Refusal}
 use Rattle.refusal.specs.declared.Refusal.the-variants.{WideGap, StoreFull, ManyKnown, BadContent, ShortSlice, ManyPredecessors, BadGuardContent, GuardsFull, LongJournal, UnknownMark, BadRecord, PendingFull, ShortOutput, BadHashText, NoSender, NoWire}
@@ -49,21 +47,6 @@ number-small NoWire = omega arith
 
 pub paste-at : (d : List ℕ) (at : ℕ) (s : List ℕ) (n : ℕ) → length s ≡ n → paste d at s n ≡ writtenAt at s d
 paste-at d at s n e = rw (take-all n s (omega arith), append-assoc (take at d) s (drop (at + n) d), drop-drop (length s) at d, e)
-
--- five numbers of 8 bytes fill 40 bytes
-pub five : (d d1 d2 d3 d4 d5 : List ℕ) (a b c e f : ℕ) → length d ≡ 40 → d1 ≡ paste d 0 (digits 8 a) 8 → d2 ≡ paste d1 8 (digits 8 b) 8 →
-    d3 ≡ paste d2 16 (digits 8 c) 8 → d4 ≡ paste d3 24 (digits 8 e) 8 → d5 ≡ paste d4 32 (digits 8 f) 8 → d5 ≡ collect (digits 8) (a ∷ b ∷ c ∷ e ∷ f ∷ [])
-five d d1 d2 d3 d4 d5 a b c e f l p1 p2 p3 p4 p5 =
-    let xs : List ℕ = a ∷ b ∷ c ∷ e ∷ f ∷ [] in
-    let room : 8 * 5 ≤ length d = omega arith in
-    let w0 = start (λ x. x) (digits 8) 8 xs 5 d in
-    let w1 = wrote-more (λ x. x) (digits 8) 8 xs 5 d d 0 0 d1 w0 (omega arith) (omega arith) room (length-digits 8 a) (p1 ∙ paste-at d 0 (digits 8 a) 8 (length-digits 8 a)) in
-    let w2 = wrote-more (λ x. x) (digits 8) 8 xs 5 d d1 1 0 d2 w1 (omega arith) (omega arith) room (length-digits 8 b) (p2 ∙ paste-at d1 8 (digits 8 b) 8 (length-digits 8 b)) in
-    let w3 = wrote-more (λ x. x) (digits 8) 8 xs 5 d d2 2 0 d3 w2 (omega arith) (omega arith) room (length-digits 8 c) (p3 ∙ paste-at d2 16 (digits 8 c) 8 (length-digits 8 c)) in
-    let w4 = wrote-more (λ x. x) (digits 8) 8 xs 5 d d3 3 0 d4 w3 (omega arith) (omega arith) room (length-digits 8 e) (p4 ∙ paste-at d3 24 (digits 8 e) 8 (length-digits 8 e)) in
-    let w5 = wrote-more (λ x. x) (digits 8) 8 xs 5 d d4 4 0 d5 w4 (omega arith) (omega arith) room (length-digits 8 f) (p5 ∙ paste-at d4 32 (digits 8 f) 8 (length-digits 8 f)) in
-    let whole : length d ≤ length (collect (digits 8) xs) = omega (arith, w5 .sized) in
-    wrote-all (λ x. x) (digits 8) 8 xs 5 d d5 5 w5 (omega arith) ∙ rw (drop-of-length-le d whole, append-nil)
 
 -- ---- the fold's ways
 

@@ -1,4 +1,10 @@
-use Rattle.gap_quarantine_journal.proofs.Exporting.{five}
+use mathlib.Core.Path.{refl}
+use mathlib.Core.List.{[], _∷_}
+use Rattle.lists.specs.Lists.{collect}
+use Rattle.wire.specs.Numbers.{digits}
+use Rattle.wire.proofs.NumberLaws.{length-digits}
+use Rattle.layout.specs.Layout.{join}
+use Rattle.journal_record.proofs.WriteLaws.{begun, put, ended}
 use borrow.Author.Needs.{needs}
 use Rattle.gap_quarantine_journal.proofs.output.write_totals.Statement.{statement}
 use Rattle.gap_quarantine_journal.proofs.output.write_totals.Tie as tie
@@ -22,11 +28,17 @@ same-length : tie.Need-same-length
 same-length c = search needs
 
 returns : tie.Need-returns
+unfolding collect join
 returns c =
     let a = (c .before .before .before .before .before .before .before .before .before .before .before .before .before .before .before .before .before .before .before .before .before) .args in
-    five (a .out .now) ((c .before .before .before .before .before .before .before .before .before .before .before .before .before .before .before .before .before .before) .put-number .last .0) ((c .before .before .before .before .before .before .before .before .before .before .before .before .before .before) .put-number2 .last .0) ((c .before .before .before .before .before .before .before .before .before .before) .put-number3 .last .0) ((c .before .before .before .before .before .before) .put-number4 .last .0) ((c .before .before) .put-number5 .last .0)
-    (a .pending) (a .sums .skipped) (a .sums .migrated) (a .sums .degraded) (a .end) ((c .before .before .before .before .before .before .before .before .before .before .before .before .before .before .before .before .before .before .before .before .before) .pre)
-    ((c .before .before .before .before .before .before .before .before .before .before .before .before .before .before .before .before .before .before) .put-number .ensures) ((c .before .before .before .before .before .before .before .before .before .before .before .before .before .before) .put-number2 .ensures) ((c .before .before .before .before .before .before .before .before .before .before) .put-number3 .ensures) ((c .before .before .before .before .before .before) .put-number4 .ensures) ((c .before .before) .put-number5 .ensures)
+    let fields = digits 8 (a .pending) ∷ digits 8 (a .sums .skipped) ∷ digits 8 (a .sums .migrated) ∷ digits 8 (a .sums .degraded) ∷ digits 8 (a .end) ∷ [] in
+    let w = begun 40 fields (a .out .now) ((c .before .before .before .before .before .before .before .before .before .before .before .before .before .before .before .before .before .before .before .before .before) .pre) in
+    let w = put w ((c .before .before .before .before .before .before .before .before .before .before .before .before .before .before .before .before .before .before) .put-number .last .0) 8 (length-digits 8 (a .pending)) refl ((c .before .before .before .before .before .before .before .before .before .before .before .before .before .before .before .before .before .before) .put-number .ensures) in
+    let w = put w ((c .before .before .before .before .before .before .before .before .before .before .before .before .before .before) .put-number2 .last .0) 8 (length-digits 8 (a .sums .skipped)) refl ((c .before .before .before .before .before .before .before .before .before .before .before .before .before .before) .put-number2 .ensures) in
+    let w = put w ((c .before .before .before .before .before .before .before .before .before .before) .put-number3 .last .0) 8 (length-digits 8 (a .sums .migrated)) refl ((c .before .before .before .before .before .before .before .before .before .before) .put-number3 .ensures) in
+    let w = put w ((c .before .before .before .before .before .before) .put-number4 .last .0) 8 (length-digits 8 (a .sums .degraded)) refl ((c .before .before .before .before .before .before) .put-number4 .ensures) in
+    let w = put w ((c .before .before) .put-number5 .last .0) 8 (length-digits 8 (a .end)) refl ((c .before .before) .put-number5 .ensures) in
+    ended w
 
 pub write-totals-spec : {M : Type 1} → statement M
 write-totals-spec =
