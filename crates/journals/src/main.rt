@@ -57,7 +57,7 @@ fn run_journal(journal: &[u8], out: &mut [u8]) {
     }
 }
 
-// The bytes of an item.
+// Folds or restores the bytes of an item.
 fn run(head: Head, bytes: &[u8]) {
     if !head.is_journal {
         print_restored(bytes);
