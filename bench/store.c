@@ -1,14 +1,39 @@
-/* Times store calls in the loops of the crate store_bench: microseconds a call, the fastest of five runs. */
+/* The store calls in the loops of the crate store_bench. Without COUNT_COPIES: microseconds a call, the fastest of five runs.
+   With it, and linked with --wrap=memcpy and --wrap=memmove: how many large copies a call makes. */
 #include <stddef.h>
 #include <stdint.h>
 #include <stdio.h>
 #include <time.h>
 
-uint64_t bench_push(uint64_t rounds);
-uint64_t bench_poll(uint64_t rounds, uint8_t frames, uint64_t head, const uint64_t *known, size_t known_len);
-uint64_t bench_guarded(uint64_t rounds, uint8_t frames, const uint64_t *known, size_t known_len, const uint64_t *nonces,
-                       size_t nonces_len, const uint8_t *hashes, size_t hashes_len);
-uint64_t bench_finality(uint64_t rounds, uint8_t frames);
+uint64_t store_bench_push(uint64_t rounds);
+uint64_t store_bench_waiting(uint64_t frames, uint64_t rounds);
+uint64_t store_bench_guarded(uint64_t frames, uint64_t rounds);
+uint64_t store_bench_rescued(uint64_t frames, uint64_t rounds);
+uint64_t store_bench_enter(uint64_t rounds);
+uint64_t store_bench_finality(uint64_t rounds);
+uint64_t gap_quarantine_polls(uint64_t rounds);
+uint64_t gap_quarantine_guarded_polls(uint64_t rounds);
+uint64_t gap_quarantine_push_and_rescue(uint64_t rounds);
+uint64_t gap_quarantine_finality(uint64_t rounds);
+
+enum what { PUSH, WAITING, GUARDED, RESCUED, ENTER, FINALITY, POLLS, GUARDED_POLLS, PUSH_RESCUE, PUSH_ENTER_FINALITY };
+
+static uint64_t run(enum what what, uint64_t frames, uint64_t rounds) {
+    switch (what) {
+    case PUSH: return store_bench_push(rounds);
+    case WAITING: return store_bench_waiting(frames, rounds);
+    case GUARDED: return store_bench_guarded(frames, rounds);
+    case RESCUED: return store_bench_rescued(frames, rounds);
+    case ENTER: return store_bench_enter(rounds);
+    case FINALITY: return store_bench_finality(rounds);
+    case POLLS: return gap_quarantine_polls(rounds);
+    case GUARDED_POLLS: return gap_quarantine_guarded_polls(rounds);
+    case PUSH_RESCUE: return gap_quarantine_push_and_rescue(rounds);
+    default: return gap_quarantine_finality(rounds);
+    }
+}
+
+#ifndef COUNT_COPIES
 
 static double now(void) {
     struct timespec t;
@@ -16,45 +41,82 @@ static double now(void) {
     return t.tv_sec + t.tv_nsec * 1e-9;
 }
 
-enum what { PUSH, WAITING, RESCUED, GUARDED, FINALITY };
+static void head(void) { printf("microseconds, the fastest of five runs\n"); }
 
-static const uint64_t gap[3] = {5, 6, 7};
-static const uint8_t hashes[96];
-
-static uint64_t run(enum what what, uint64_t rounds, uint8_t frames) {
-    switch (what) {
-    case PUSH: return bench_push(rounds);
-    case WAITING: return bench_poll(rounds, frames, 5, gap, 1);
-    case RESCUED: return bench_poll(rounds, frames, 8, gap, 0);
-    case GUARDED: return bench_guarded(rounds, frames, gap, 3, gap, 3, hashes, 96);
-    default: return bench_finality(rounds, frames);
-    }
-}
-
-static void tell(const char *name, enum what what, uint64_t rounds, uint8_t frames) {
+static void tell(const char *name, enum what what, uint64_t frames) {
+    const uint64_t rounds = 10000;
     double best = 1e9;
     uint64_t seen = 0;
     for (int i = 0; i < 5; i++) {
         double start = now();
-        seen = run(what, rounds, frames);
+        seen = run(what, frames, rounds);
         double took = now() - start;
         if (took < best) best = took;
     }
-    printf("%-40s %8.2f us, %llu seen in %llu rounds\n", name, best / rounds * 1e6, (unsigned long long)seen,
-           (unsigned long long)rounds);
+    printf("%-48s %8.2f   (%llu a round)\n", name, best / rounds * 1e6, (unsigned long long)(seen / rounds));
 }
 
+#else
+
+/* The entries take 12,808 bytes and the guards 45,064; a copy of the whole store counts as one of each. */
+static uint64_t entries_copied, guards_copied, bytes_copied;
+
+static void count(size_t n) {
+    bytes_copied += n;
+    if (n >= 12000 && n < 40000) entries_copied++;
+    if (n >= 40000) guards_copied++;
+    if (n >= 57000) entries_copied++;
+}
+
+void *__real_memcpy(void *to, const void *from, size_t n);
+void *__real_memmove(void *to, const void *from, size_t n);
+
+void *__wrap_memcpy(void *to, const void *from, size_t n) {
+    count(n);
+    return __real_memcpy(to, from, n);
+}
+
+void *__wrap_memmove(void *to, const void *from, size_t n) {
+    count(n);
+    return __real_memmove(to, from, n);
+}
+
+static void head(void) {
+    printf("copies by memcpy and memmove: of the entries (12,000 bytes or more), of the guards (40,000 or more), and all bytes\n");
+}
+
+/* What ten more rounds copy, divided by ten: the making of the store does not count. */
+static void tell(const char *name, enum what what, uint64_t frames) {
+    entries_copied = guards_copied = bytes_copied = 0;
+    run(what, frames, 1);
+    uint64_t entries = entries_copied, guards = guards_copied, bytes = bytes_copied;
+    entries_copied = guards_copied = bytes_copied = 0;
+    run(what, frames, 11);
+    printf("%-48s %8.1f %8.1f %10.0f\n", name, (entries_copied - entries) / 10.0, (guards_copied - guards) / 10.0,
+           (bytes_copied - bytes) / 10.0);
+}
+
+#endif
+
 int main(void) {
-    tell("push, entries alone", PUSH, 100000, 0);
-    tell("poll, 1 frame waits", WAITING, 20000, 1);
-    tell("poll, 8 frames wait", WAITING, 20000, 8);
-    tell("poll, 64 frames wait", WAITING, 5000, 64);
-    tell("poll with content, 1 frame, guarded", GUARDED, 20000, 1);
-    tell("poll with content, 8 frames, 1 guarded", GUARDED, 10000, 8);
-    tell("poll, 1 frame rescued", RESCUED, 20000, 1);
-    tell("poll, 8 frames rescued", RESCUED, 10000, 8);
-    tell("poll, 64 frames rescued", RESCUED, 5000, 64);
-    tell("push, enter and finality, 1 held", FINALITY, 10000, 0);
-    tell("push, enter and finality, 33 held", FINALITY, 10000, 32);
+    head();
+    printf("one call on a store that is kept:\n");
+    tell("  push, 8 held", PUSH, 8);
+    tell("  poll, 1 frame waits", WAITING, 1);
+    tell("  poll, 8 frames wait", WAITING, 8);
+    tell("  poll, 64 frames wait", WAITING, 64);
+    tell("  poll with content, 1 frame held by its guard", GUARDED, 1);
+    tell("  poll with content, 8 frames held by guards", GUARDED, 8);
+    tell("  poll with content, 64 frames held by guards", GUARDED, 64);
+    tell("  poll, 1 frame rescued", RESCUED, 1);
+    tell("  poll, 8 frames rescued", RESCUED, 8);
+    tell("  poll, 64 frames rescued", RESCUED, 64);
+    tell("  enter, 8 held", ENTER, 8);
+    tell("  finality of one, 8 held", FINALITY, 8);
+    printf("a round whose store goes to the next:\n");
+    tell("  poll, 8 frames wait", POLLS, 8);
+    tell("  poll with content, 8 frames held by guards", GUARDED_POLLS, 8);
+    tell("  push and rescue", PUSH_RESCUE, 1);
+    tell("  push, enter and finality", PUSH_ENTER_FINALITY, 1);
     return 0;
 }

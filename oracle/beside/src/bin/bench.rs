@@ -41,36 +41,38 @@ fn say(name: &str, unit: &str, rust: f64, ours: Option<f64>) {
 
 // ---- the store; each loop answers how many rows or frames it saw, so that both sides can be seen to do the same
 
-fn frame(sender: u8, number: u8) -> ParkedFrame {
-    let mut hash = [sender; 32];
-    hash[31] = number;
+/// Document 01's frame F as the sender's n-th.
+fn frame(n: u8) -> ParkedFrame {
+    let mut hash = [1; 32];
+    hash[0] = n;
     beside::store::original::parked(&beside::store::calls::Frame {
         hash,
-        from: [sender; 20],
+        from: [1; 20],
         expected: 5,
         claim: 8,
         chain_id: 1,
         gas: 21_000,
-        ticket: u64::from(number),
+        ticket: u64::from(n),
     })
 }
 
-/// Eight senders of eight frames each; every poll gives eight rows of StillWaiting.
+/// A sender with eight frames; every poll gives eight rows of StillWaiting.
 fn polls(rounds: u64) -> u64 {
     let mut q = Quarantine::new();
-    for i in 0..64 {
-        q.push(frame(i / 8, i));
+    for n in 0..8 {
+        q.push(frame(n));
     }
-    (0..rounds).map(|i| q.poll(Address([(i % 8) as u8; 20]), 5, &[6]).len() as u64).sum()
+    (0..rounds).map(|_| q.poll(Address([1; 20]), 5, &[6]).len() as u64).sum()
 }
 
-/// One frame with a matching guard of three predecessors; every poll brings their content and gives one row.
+/// The same with a matching guard for each frame; every poll brings the content, and gives eight rows of StillWaiting.
 fn guarded_polls(rounds: u64) -> u64 {
     let mut q = Quarantine::new();
-    q.push(frame(1, 1));
-    let hashes = [B256([7; 32]), B256([8; 32]), B256([9; 32])];
-    q.record_repark_guard_with_content(frame(1, 1).hash, &[5, 6, 7], &hashes, 5);
-    let content = [(5, hashes[0]), (6, hashes[1]), (7, hashes[2])];
+    for n in 0..8 {
+        q.push(frame(n));
+        q.record_repark_guard_with_content(frame(n).hash, &[5, 6, 7], &[B256([7; 32]); 3], 5);
+    }
+    let content = [5, 6, 7].map(|nonce| (nonce, B256([7; 32])));
     (0..rounds).map(|_| q.poll_with_content(Address([1; 20]), 5, &[5, 6, 7], &content).len() as u64).sum()
 }
 
@@ -79,23 +81,19 @@ fn push_and_rescue(rounds: u64) -> u64 {
     let mut q = Quarantine::new();
     let mut seen = 0;
     for _ in 0..rounds {
-        q.push(frame(1, 1));
+        q.push(frame(0));
         seen += q.poll(Address([1; 20]), 8, &[]).len() as u64;
     }
     seen
 }
 
-/// Eight pushes, eight enterings, and the finality that ends them.
+/// A push, an entering, and the finality that ends the frame.
 fn finality(rounds: u64) -> u64 {
     let mut q = Quarantine::new();
     let mut seen = 0;
     for _ in 0..rounds {
-        for i in 0..8 {
-            q.push(frame(i, i));
-        }
-        for i in 0..8 {
-            q.enter_tentative(frame(i, i).hash, NonceConsumed::MinedAt { block: 100, block_hash: B256([3; 32]) });
-        }
+        q.push(frame(0));
+        q.enter_tentative(frame(0).hash, NonceConsumed::MinedAt { block: 100, block_hash: B256([3; 32]) });
         seen += q.check_finalized(100).len() as u64;
     }
     seen
@@ -104,10 +102,10 @@ fn finality(rounds: u64) -> u64 {
 fn store() {
     let ours = store_loops();
     let measures: [(&str, fn(u64) -> u64, u64, Option<Loop>); 4] = [
-        ("polls with 8 frames a sender, 64 held", polls, 100_000, ours.as_ref().map(|o| o.polls)),
-        ("guarded polls with content", guarded_polls, 400_000, ours.as_ref().map(|o| o.guarded_polls)),
-        ("push and rescue", push_and_rescue, 400_000, ours.as_ref().map(|o| o.push_and_rescue)),
-        ("8 pushes, 8 enterings and their finality", finality, 40_000, ours.as_ref().map(|o| o.finality)),
+        ("polls with 8 frames a sender", polls, 100_000, ours.as_ref().map(|o| o.polls)),
+        ("guarded polls with content, 8 frames", guarded_polls, 100_000, ours.as_ref().map(|o| o.guarded_polls)),
+        ("push and rescue", push_and_rescue, 100_000, ours.as_ref().map(|o| o.push_and_rescue)),
+        ("push, entering and finality", finality, 100_000, ours.as_ref().map(|o| o.finality)),
     ];
     for (name, rust, rounds, ours) in measures {
         if let Some(ours) = ours {

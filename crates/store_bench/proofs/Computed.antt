@@ -1,0 +1,54 @@
+-- What each call does to the store that its loop runs on: computed.
+use Prim.Native.Nat.{ℕ, _≤_}
+use mathlib.Core.Path.{_≡_, refl}
+use mathlib.Core.Bool.{Bool, true, false}
+use native.Mathlib.Omega.{arith}
+use lib.Dec.{ltb}
+use Rattle.lists.specs.Bytes as bytes
+use Rattle.lists.specs.Lists as lists
+use Rattle.gap_quarantine.specs.Frames as frames
+use Rattle.gap_quarantine.specs.Poll as polls
+use Rattle.gap_quarantine.specs.Rules as rules
+use Rattle.gap_quarantine.specs.Store as stores
+use Rattle.gap_quarantine.specs.Answers as answers
+use Rattle.gap_quarantine.specs.Store.{empty, push, checkFinalized}
+use Rattle.store_bench.specs.Loads.{frame, waiting, rescuing, guarded, mining, after, sizeOf, sized, pushed, guardedBy, told, Goes}
+
+-- the rounds whose store goes to the next, and calls on a store of 8 frames that is kept
+pub record Computed : Type 0 where
+  pub polled : Goes (pushed 8) waiting 152 0 (pushed 8) 8
+  pub guarded-polled : Goes (guardedBy 8) guarded 152 0 (guardedBy 8) 8
+  pub rescued : Goes (after empty (push (frame 0))) rescuing 19 0 empty 1
+  pub ended : Goes (after (after empty (push (frame 0))) mining) (checkFinalized 100) 3 64 empty 1
+  pub ninth : told (pushed 8) (push (frame 8)) 0 0 ≡ 9
+  pub enters : told (pushed 8) mining 0 0 ≡ 1
+  pub ends : told (after (pushed 8) mining) (checkFinalized 100) 3 64 ≡ 1
+
+pub computed : Computed
+unfolding bytes.eqBytes bytes.leBytes lists.keep lists.isEmpty lists.isIn frames.degraded polls.numbersFrom polls.gap polls.predecessors polls.unknown polls.firstIs polls.contentsHold polls.contentMatches polls.boundaryHolds polls.guardMatches polls.stay polls.leave polls.row polls.pollFull polls.pollIn polls.pollGiven polls.pollRule rules.onlyOf rules.finalIn rules.finalRule stores.empty stores.guardOf stores.dropGuard stores.putGuard stores.after stores.walk stores.walked stores.fresh stores.insert stores.isTracked stores.enters stores.enterWith stores.enterFirst stores.anyEnters stores.effect stores.when stores.orElse stores.wideGap stores.badContent stores.badContents stores.noRoomFor stores.inputRefusal stores.entriesOf stores.listed stores.roomRefusal stores.refusal stores.unless stores.step answers.said pushed guardedBy
+computed =
+    record {
+      polled = record { store = refl; seen = refl };
+      guarded-polled = record { store = refl; seen = refl };
+      rescued = record { store = refl; seen = refl };
+      ended = record { store = refl; seen = refl };
+      ninth = refl;
+      enters = refl;
+      ends = refl;
+    }
+
+-- polls of so many frames
+pub record Polled (n : ℕ) : Type 0 where
+  pub few : n ≤ 64
+  pub waits : told (pushed n) waiting 1216 0 ≡ n
+  pub held-back : told (guardedBy n) guarded 1216 0 ≡ n
+  pub rescued : told (pushed n) rescuing 1216 0 ≡ n
+
+by-size : (a b : Bool) → Polled (sizeOf a b)
+unfolding bytes.eqBytes bytes.leBytes lists.keep lists.isEmpty lists.isIn frames.degraded polls.numbersFrom polls.gap polls.predecessors polls.unknown polls.firstIs polls.contentsHold polls.contentMatches polls.boundaryHolds polls.guardMatches polls.stay polls.leave polls.row polls.pollFull polls.pollIn polls.pollGiven polls.pollRule rules.onlyOf rules.finalIn rules.finalRule stores.empty stores.guardOf stores.dropGuard stores.putGuard stores.after stores.walk stores.walked stores.fresh stores.insert stores.isTracked stores.enters stores.enterWith stores.enterFirst stores.anyEnters stores.effect stores.when stores.orElse stores.wideGap stores.badContent stores.badContents stores.noRoomFor stores.inputRefusal stores.entriesOf stores.listed stores.roomRefusal stores.refusal stores.unless stores.step answers.said pushed guardedBy
+by-size true b = record { few = omega arith; waits = refl; held-back = refl; rescued = refl }
+by-size false true = record { few = omega arith; waits = refl; held-back = refl; rescued = refl }
+by-size false false = record { few = omega arith; waits = refl; held-back = refl; rescued = refl }
+
+pub at-size : (n : ℕ) → Polled (sized n)
+at-size n = by-size (ltb n 8) (ltb n 64)

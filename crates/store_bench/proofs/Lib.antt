@@ -1,0 +1,4 @@
+pub mod Computed
+pub mod Filling
+pub mod Performing
+pub mod Rounds

@@ -1,0 +1,91 @@
+-- The stores that the loops run on, the calls that they make on them, and how many an answer tells of.
+use Prim.Native.Nat.{ℕ, zero, suc}
+use mathlib.Core.Path.{_≡_}
+use mathlib.Core.Bool.{Bool, true, false}
+use mathlib.Core.List.{[], _∷_}
+use mathlib.Core.Option.{none, some}
+use lib.Dec.{ltb}
+use lib.ListN.{set, replicate}
+use Rattle.lists.specs.Bytes.{Bytes}
+use Rattle.gap_quarantine.specs.Frames.{Frame, mined, Guard, reparked}
+use Rattle.gap_quarantine.specs.Store.{Store, empty, Call, push, poll, guard, enterTentative, step}
+use Rattle.gap_quarantine.specs.Answers.{Said, number, turnedAway, said}
+
+-- ---- frames
+
+abbrev pub sender : Bytes
+sender = replicate 20 1
+
+abbrev pub hashAt : ℕ → Bytes
+hashAt n = set (replicate 32 1) 0 n
+
+-- document 01's frame F as the sender's n-th
+abbrev pub frame : ℕ → Frame
+frame n = record { hash = hashAt n; from = sender; expected = 5; claim = 8; chainId = 1; gas = 21000; ticket = n }
+
+-- ---- calls
+
+-- a poll at head 5 that knows only 6 of the gap: every frame waits
+abbrev pub waiting : Call
+waiting = poll sender 5 (6 ∷ []) none
+
+-- a poll at the claim: every frame is rescued
+abbrev pub rescuing : Call
+rescuing = poll sender 8 [] none
+
+-- hashes of the gap's nonces, one after another
+abbrev pub contents : Bytes
+contents = replicate 96 7
+
+-- the guard that holds the n-th frame back as long as the contents are these
+abbrev pub guardAt : ℕ → Guard
+guardAt n = record { hash = hashAt n; kind = reparked 5; predecessors = 5 ∷ 6 ∷ 7 ∷ []; contents = contents }
+
+-- a poll that knows the whole gap and brings its contents
+abbrev pub guarded : Call
+guarded = poll sender 5 (5 ∷ 6 ∷ 7 ∷ []) (some (record { nonces = 5 ∷ 6 ∷ 7 ∷ []; hashes = contents }))
+
+-- the first frame is mined in block 100
+abbrev pub mining : Call
+mining = enterTentative (hashAt 0) (record { taker = mined; block = 100; blockHash = replicate 32 3 })
+
+-- ---- stores
+
+-- the store after a call that takes no slice
+abbrev pub after : Store → Call → Store
+after s call = step s (record { call = call; numbers = 0; bytes = 0 }) .0
+
+-- so many frames
+unfoldable pub pushed : ℕ → Store
+pushed zero = empty
+pushed (suc n) = after (pushed n) (push (frame n))
+
+-- the largest of 1, 8 and 64 that is not above the number, and 1 for 0
+abbrev pub sizeOf : Bool → Bool → ℕ
+sizeOf true b = 1
+sizeOf false true = 8
+sizeOf false false = 64
+
+abbrev pub sized : ℕ → ℕ
+sized n = sizeOf (ltb n 8) (ltb n 64)
+
+-- so many frames, each with its guard
+unfoldable pub guardedBy : ℕ → Store
+guardedBy zero = empty
+guardedBy (suc n) = after (after (guardedBy n) (push (frame n))) (guard (guardAt n))
+
+-- ---- answers
+
+-- the total, how many are listed, 1 for true; 0 for a refusal
+abbrev pub counted : Said → ℕ
+counted (number n) = n
+counted (turnedAway n) = 0
+
+-- how many a call with so much room for numbers and bytes tells of
+abbrev pub told : Store → Call → ℕ → ℕ → ℕ
+told s call numbers bytes = counted (said (step s (record { call = call; numbers = numbers; bytes = bytes }) .1))
+
+-- such a call leads to this store, and tells of so many
+pub record Goes (s : Store) (call : Call) (numbers bytes : ℕ) (t : Store) (n : ℕ) : Type 0 where
+  pub store : step s (record { call = call; numbers = numbers; bytes = bytes }) .0 ≡ t
+  pub seen : told s call numbers bytes ≡ n

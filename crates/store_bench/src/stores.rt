@@ -1,0 +1,120 @@
+// The stores that the loops run on, and how many an answer tells of.
+ghost use mathlib.Core.Path.{_≡_};
+ghost use Prim.Native.Nat.{min};
+ghost use Rattle.gap_quarantine.specs.View.{frameOf, viewOf};
+ghost use Rattle.gap_quarantine.specs.Contracts.{heard};
+ghost use Rattle.store_bench.specs.Loads.{hashAt, frame, mining, after, pushed, guardedBy, sized, counted};
+use gap_quarantine::Answer;
+use gap_quarantine::NonceConsumed;
+use gap_quarantine::ParkedFrame;
+use gap_quarantine::Quarantine;
+
+// The rounds of one run, at most 2^32.
+pub(crate) fn capped(rounds: u64) -> u64
+    ensures { λ r. ⌜ r ≡ min rounds 4294967296 ⌝ }
+{
+    if rounds < 4294967296 {
+        return rounds;
+    }
+    4294967296
+}
+
+// The largest of 1, 8 and 64 that is not above the number, and 1 for 0.
+pub(crate) fn sized(frames: u64) -> u8
+    ensures { λ r. ⌜ r ≡ sized frames ⌝ }
+{
+    if frames < 8 {
+        return 1;
+    }
+    if frames < 64 {
+        return 8;
+    }
+    64
+}
+
+// How many an answer tells of: the total, how many are listed, 1 for true; 0 for a refusal.
+pub(crate) fn counted(a: Answer) -> u64
+    ensures { λ r. ⌜ r ≡ counted (heard a) ⌝ }
+{
+    match a {
+        Answer::Total(n) => n as u64,
+        Answer::Rows(n) => n as u64,
+        Answer::Recorded => 0,
+        Answer::Entered(b) => {
+            if b {
+                return 1;
+            }
+            0
+        }
+        Answer::Frames(n) => n as u64,
+        Answer::Dead(n) => n as u64,
+        Answer::Refused(_) => 0,
+    }
+}
+
+// The hash of the sender's n-th frame.
+pub(crate) fn hash_at(n: u8) -> [u8; 32]
+    ensures { λ r. ⌜ r ≡ hashAt n ⌝ }
+{
+    let mut hash = [1u8; 32];
+    hash[0] = n;
+    hash
+}
+
+// Document 01's frame F as the sender's n-th.
+pub(crate) fn frame(n: u8) -> ParkedFrame
+    ensures { λ r. ⌜ frameOf r ≡ frame n ⌝ }
+{
+    let hash = hash_at(n);
+    ParkedFrame {
+        hash: hash,
+        from: [1u8; 20],
+        expected: 5,
+        claim: 8,
+        chain_id: 1,
+        gas: 21000,
+        ticket: n as u64,
+    }
+}
+
+// So many frames.
+pub(crate) fn store_of(frames: u8) -> Quarantine
+    ensures { λ r. ⌜ viewOf r ≡ pushed frames ⌝ }
+{
+    let mut q = Quarantine::new();
+    let mut i: u8 = 0;
+    while i < frames {
+        let r = q.push(frame(i));
+        q = r.store;
+        i += 1;
+    }
+    q
+}
+
+// So many frames, each with its guard.
+pub(crate) fn guarded_store(frames: u8) -> Quarantine
+    ensures { λ r. ⌜ viewOf r ≡ guardedBy frames ⌝ }
+{
+    let gap = [5u64, 6, 7];
+    let contents = [7u8; 96];
+    let mut q = Quarantine::new();
+    let mut i: u8 = 0;
+    while i < frames {
+        let pushed = q.push(frame(i));
+        let held = pushed.store;
+        let r = held.record_repark_guard_with_content(hash_at(i), &gap, &contents, 5);
+        q = r.store;
+        i += 1;
+    }
+    q
+}
+
+// The store after its first frame was mined in block 100.
+pub(crate) fn mined(q: Quarantine) -> Quarantine
+    ensures { λ r. ⌜ viewOf r ≡ after (viewOf q) mining ⌝ }
+{
+    let zeros = [0u8; 32];
+    let r = q.enter_tentative(hash_at(0), NonceConsumed::MinedAt(100), [3u8; 32], zeros);
+    let store = r.store;
+    store
+}
