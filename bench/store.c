@@ -1,5 +1,5 @@
-/* The store calls in the loops of the crate store_bench. Without COUNT_COPIES: microseconds a call, the fastest of five runs.
-   With it, and linked with --wrap=memcpy and --wrap=memmove: how many large copies a call makes. */
+/* The store calls in the loops of the crate store_bench. Without COUNT_COPIES: microseconds a call, the fastest of twenty runs.
+   With it, and linked with --wrap=memcpy and --wrap=memmove: how often a call copies the entries and the guards. */
 #include <stddef.h>
 #include <stdint.h>
 #include <stdio.h>
@@ -33,7 +33,7 @@ static uint64_t run(enum what what, uint64_t frames, uint64_t rounds) {
     }
 }
 
-#ifndef COUNT_COPIES
+enum { TRIES = 20, ROUNDS = 2000 };
 
 static double now(void) {
     struct timespec t;
@@ -41,48 +41,58 @@ static double now(void) {
     return t.tv_sec + t.tv_nsec * 1e-9;
 }
 
-static void head(void) { printf("microseconds, the fastest of five runs\n"); }
+#ifndef COUNT_COPIES
+
+static void head(void) { printf("%-48s %8s\n", "the fastest of twenty runs", "us"); }
 
 static void tell(const char *name, enum what what, uint64_t frames) {
-    const uint64_t rounds = 10000;
     double best = 1e9;
-    uint64_t seen = 0;
-    for (int i = 0; i < 5; i++) {
+    for (int i = 0; i < TRIES; i++) {
         double start = now();
-        seen = run(what, frames, rounds);
+        run(what, frames, ROUNDS);
         double took = now() - start;
         if (took < best) best = took;
     }
-    printf("%-48s %8.2f   (%llu a round)\n", name, best / rounds * 1e6, (unsigned long long)(seen / rounds));
+    printf("%-48s %8.2f\n", name, best / ROUNDS * 1e6);
 }
 
 #else
 
-/* The entries take 12,808 bytes and the guards 45,064; a copy of the whole store counts as one of each. */
+/* A copy of the whole store counts as one of the entries and one of the guards. What lies between the two sizes is a list that a
+   call makes, and counts only in all bytes. */
 static uint64_t entries_copied, guards_copied, bytes_copied;
 
-static void count(size_t n) {
-    bytes_copied += n;
-    if (n >= 12000 && n < 40000) entries_copied++;
-    if (n >= 40000) guards_copied++;
-    if (n >= 57000) entries_copied++;
-}
+/* The seconds that copies of 12,000 bytes or more took, without those of asking the clock. */
+static double copying, clock_takes;
 
 void *__real_memcpy(void *to, const void *from, size_t n);
 void *__real_memmove(void *to, const void *from, size_t n);
 
-void *__wrap_memcpy(void *to, const void *from, size_t n) {
-    count(n);
-    return __real_memcpy(to, from, n);
+static void *copied(void *(*copy)(void *, const void *, size_t), void *to, const void *from, size_t n) {
+    bytes_copied += n;
+    if (n >= 40000) guards_copied++;
+    if ((n >= 12000 && n < 14000) || n >= 57000) entries_copied++;
+    if (n < 12000) return copy(to, from, n);
+    double start = now();
+    copy(to, from, n);
+    copying += now() - start - clock_takes;
+    return to;
 }
 
-void *__wrap_memmove(void *to, const void *from, size_t n) {
-    count(n);
-    return __real_memmove(to, from, n);
-}
+void *__wrap_memcpy(void *to, const void *from, size_t n) { return copied(__real_memcpy, to, from, n); }
+
+void *__wrap_memmove(void *to, const void *from, size_t n) { return copied(__real_memmove, to, from, n); }
 
 static void head(void) {
-    printf("copies by memcpy and memmove: of the entries (12,000 bytes or more), of the guards (40,000 or more), and all bytes\n");
+    clock_takes = 1;
+    for (int i = 0; i < 1000; i++) {
+        double start = now();
+        double took = now() - start;
+        if (took < clock_takes) clock_takes = took;
+    }
+    printf("copies by memcpy and memmove: how often of the entries (12,000 to 14,000 bytes) and of the guards (40,000 or more),\n"
+           "all bytes, and the time of those of 12,000 bytes or more\n");
+    printf("%-48s %8s %8s %8s %8s\n", "", "entries", "guards", "bytes", "us");
 }
 
 /* What ten more rounds copy, divided by ten: the making of the store does not count. */
@@ -92,8 +102,18 @@ static void tell(const char *name, enum what what, uint64_t frames) {
     uint64_t entries = entries_copied, guards = guards_copied, bytes = bytes_copied;
     entries_copied = guards_copied = bytes_copied = 0;
     run(what, frames, 11);
-    printf("%-48s %8.1f %8.1f %10.0f\n", name, (entries_copied - entries) / 10.0, (guards_copied - guards) / 10.0,
+    printf("%-48s %8.1f %8.1f %8.0f", name, (entries_copied - entries) / 10.0, (guards_copied - guards) / 10.0,
            (bytes_copied - bytes) / 10.0);
+    double best = 1e9;
+    for (int i = 0; i < TRIES; i++) {
+        copying = 0;
+        run(what, frames, 1);
+        double making = copying;
+        copying = 0;
+        run(what, frames, ROUNDS + 1);
+        if (copying - making < best) best = copying - making;
+    }
+    printf(" %8.2f\n", best / ROUNDS * 1e6);
 }
 
 #endif

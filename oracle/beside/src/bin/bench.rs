@@ -19,7 +19,7 @@ use std::hint::black_box;
 use std::time::Instant;
 
 /// Each measure runs this often, and the fastest counts: other work on the machine only slows a run down.
-const TRIES: usize = 5;
+const TRIES: usize = 20;
 
 /// How often a second something is done.
 fn rate(times: u64, mut run: impl FnMut() -> u64) -> f64 {
@@ -102,10 +102,10 @@ fn finality(rounds: u64) -> u64 {
 fn store() {
     let ours = store_loops();
     let measures: [(&str, fn(u64) -> u64, u64, Option<Loop>); 4] = [
-        ("polls with 8 frames a sender", polls, 100_000, ours.as_ref().map(|o| o.polls)),
-        ("guarded polls with content, 8 frames", guarded_polls, 100_000, ours.as_ref().map(|o| o.guarded_polls)),
-        ("push and rescue", push_and_rescue, 100_000, ours.as_ref().map(|o| o.push_and_rescue)),
-        ("push, entering and finality", finality, 100_000, ours.as_ref().map(|o| o.finality)),
+        ("polls with 8 frames a sender", polls, 10_000, ours.as_ref().map(|o| o.polls)),
+        ("guarded polls with content, 8 frames", guarded_polls, 10_000, ours.as_ref().map(|o| o.guarded_polls)),
+        ("push and rescue", push_and_rescue, 10_000, ours.as_ref().map(|o| o.push_and_rescue)),
+        ("push, entering and finality", finality, 10_000, ours.as_ref().map(|o| o.finality)),
     ];
     for (name, rust, rounds, ours) in measures {
         if let Some(ours) = ours {
