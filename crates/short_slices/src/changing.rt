@@ -7,9 +7,9 @@ use super::tracked;
 // A poll that rescues both frames: 19 numbers each.
 fn poll(rows: &mut [u64]) {
     let q = tracked();
-    let known = [0u64; 1];
+    let known = [0u64; 0];
     print::call(b"poll", rows.len());
-    let r = q.poll([1u8; 20], 8, &known[0..0], &mut *rows);
+    let r = q.poll([1u8; 20], 8, &known, &mut *rows);
     let answer = r.answer;
     let after = r.store;
     print::answer(answer);
@@ -20,11 +20,11 @@ fn poll(rows: &mut [u64]) {
 // The same with content.
 fn poll_with_content(rows: &mut [u64]) {
     let q = tracked();
-    let known = [0u64; 1];
+    let known = [0u64; 0];
     let nonces = [7u64; 1];
     let hashes = [9u8; 32];
     print::call(b"poll_with_content", rows.len());
-    let r = q.poll_with_content([1u8; 20], 8, &known[0..0], &nonces, &hashes, &mut *rows);
+    let r = q.poll_with_content([1u8; 20], 8, &known, &nonces, &hashes, &mut *rows);
     let answer = r.answer;
     let after = r.store;
     print::answer(answer);

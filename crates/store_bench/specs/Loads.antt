@@ -51,6 +51,16 @@ mining = enterTentative (hashAt 0) (record { taker = mined; block = 100; blockHa
 
 -- ---- stores
 
+-- 1, 8 or 64, by whether a number is below 8, and below 64
+abbrev pub sizeOf : Bool → Bool → ℕ
+sizeOf true b = 1
+sizeOf false true = 8
+sizeOf false false = 64
+
+-- the largest of 1, 8 and 64 that is not above the number, and 1 for 0
+abbrev pub sized : ℕ → ℕ
+sized n = sizeOf (ltb n 8) (ltb n 64)
+
 -- the store after a call that takes no slice
 abbrev pub after : Store → Call → Store
 after s call = step s (record { call = call; numbers = 0; bytes = 0 }) .0
@@ -59,15 +69,6 @@ after s call = step s (record { call = call; numbers = 0; bytes = 0 }) .0
 unfoldable pub pushed : ℕ → Store
 pushed zero = empty
 pushed (suc n) = after (pushed n) (push (frame n))
-
--- the largest of 1, 8 and 64 that is not above the number, and 1 for 0
-abbrev pub sizeOf : Bool → Bool → ℕ
-sizeOf true b = 1
-sizeOf false true = 8
-sizeOf false false = 64
-
-abbrev pub sized : ℕ → ℕ
-sized n = sizeOf (ltb n 8) (ltb n 64)
 
 -- so many frames, each with its guard
 unfoldable pub guardedBy : ℕ → Store
