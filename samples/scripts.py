@@ -1,12 +1,16 @@
 #!/usr/bin/env python3
-"""Writes sample scripts for `samples/scripts.py | target/bin/replay`: document 01's examples, each refusal of the store that
-slices long enough leave, every call, and input that is not well formed."""
+"""Writes sample scripts for `replay`.
+
+samples/scripts.py life | target/bin/replay    one script: the life of document 01's frame
+samples/scripts.py | target/bin/replay         document 01's examples, each refusal of the store that slices long enough leave,
+                                               every call, and input that is not well formed
+"""
 import struct
 import sys
 
-A, B, C = b"\x0a" * 20, b"\x0b" * 20, b"\x0c" * 20
-F, G, H = b"\x07" * 32, b"\x08" * 32, b"\x09" * 32
-Z = b"\x33" * 32
+A, B, C = b"\x01" * 20, b"\x02" * 20, b"\x03" * 20
+F, G, H = b"\x11" * 32, b"\x22" * 32, b"\x33" * 32
+Z, TAKER = b"\x55" * 32, b"\x66" * 32
 
 
 def u64(*numbers):
@@ -21,7 +25,7 @@ def octets(b):
     return struct.pack("<H", len(b)) + b
 
 
-def push(hash_=F, sender=A, expected=5, claim=8, chain=1, gas=21000, ticket=3):
+def push(hash_=F, sender=A, expected=5, claim=8, chain=1, gas=21000, ticket=7):
     return b"CP" + hash_ + sender + u64(expected, claim, chain, gas, ticket)
 
 
@@ -38,7 +42,7 @@ def unhydratable(preds, contents, hash_=F):
     return b"CG\2" + hash_ + numbers(preds) + octets(contents)
 
 
-def enter(kind, block, block_hash=H, taker=Z, hash_=F):
+def enter(kind, block, block_hash=H, taker=TAKER, hash_=F):
     return b"CE" + hash_ + bytes([kind]) + u64(block) + block_hash + (taker if kind == 3 else b"")
 
 
@@ -77,6 +81,23 @@ LAST = 2**64 - 1
 def numbered(n):
     return bytes([n]) * 32
 
+
+# The frame waits, is consumed, mined in block 100, revived, consumed again, taken in block 101, and dead. The frozen scripts of
+# the tests begin with this one.
+LIFE = [
+    push(),
+    poll(5, (5, 7)),
+    poll(9),
+    enter(1, 100),
+    poll(9),
+    reorg(100, Z),
+    state(),
+    poll(9),
+    enter(3, 101, Z),
+    final(100),
+    final(101),
+    LEN,
+]
 
 EXAMPLES = [
     # the starred examples of the store, in document 01's order
@@ -166,13 +187,20 @@ BAD = [
 ]
 
 
+def write(script):
+    body = b"".join(script)
+    sys.stdout.buffer.write(struct.pack("<I", len(body)) + body)
+
+
 def main():
-    out = sys.stdout.buffer
+    if sys.argv[1:] == ["life"]:
+        return write(LIFE)
+    if sys.argv[1:]:
+        sys.exit(__doc__)
     for script in EXAMPLES + REFUSALS + CALLS + BAD:
-        body = b"".join(script)
-        out.write(struct.pack("<I", len(body)) + body)
+        write(script)
     # input that breaks off in a script's length
-    out.write(b"\1\0")
+    sys.stdout.buffer.write(b"\1\0")
 
 
 if __name__ == "__main__":

@@ -1,7 +1,7 @@
 //! Writes frozen answers: scripts and journals as standard input of programs, and the Rust's own answers as what they print.
 //!
 //! freeze FOLDER: writes FOLDER/scripts/stdin, FOLDER/scripts/stdout, FOLDER/journals/stdin and FOLDER/journals/stdout.
-//! The sample has document 01's examples, a smallest input for each wrong rule, inputs at each limit, and random ones.
+//! The sample has document 01's examples, the scripts that the manual shows, a smallest input for each wrong rule, inputs at each limit, and random ones.
 use beside::hex::hex;
 use beside::journal::original::Original as Journal;
 use beside::journal::outcome::{line, with_room, Restored, ENOUGH, JOURNAL_LIMIT};
@@ -43,7 +43,11 @@ fn scripts() -> Vec<Script> {
         calls.push(Call::Dump);
         Script { calls, broken: Vec::new() }
     };
-    let mut list: Vec<Script> = store::examples::examples().into_iter().map(|e| whole(e.calls)).collect();
+    let as_given = |calls: Vec<Call>| Script { calls, broken: Vec::new() };
+    // the manual names these by their place, so they stand first
+    let mut list = vec![as_given(store::manual::life())];
+    list.extend(store::examples::examples().into_iter().map(|e| whole(e.calls)));
+    list.extend(store::manual::answers().into_iter().map(as_given));
     for (wrong, says) in store::wrong::ALL {
         let calls = stores::smallest_for(*wrong, SEED, 30_000);
         list.push(whole(calls.unwrap_or_else(|| panic!("no script tells: {says}"))));

@@ -6,6 +6,7 @@ pub mod compare;
 mod dump;
 pub mod examples;
 pub mod generate;
+pub mod manual;
 pub mod menu;
 pub mod model;
 pub mod order;

@@ -1,0 +1,239 @@
+//! The scripts that README.md and docs/ANSWERS.md show: the life of one frame, and the answers of each call.
+use super::calls::{Address, Call, Consumed, Content, Frame, GuardCall, Hash};
+
+const A: Address = [1; 20];
+const B: Address = [2; 20];
+const C: Address = [3; 20];
+/// Frame hashes: F is document 01's frame, of sender A.
+const F: Hash = [0x11; 32];
+const G: Hash = [0x22; 32];
+const I: Hash = [0x77; 32];
+/// Hashes of a block: the recorded one, and another.
+const BLOCK: Hash = [0x33; 32];
+const OTHER: Hash = [0x55; 32];
+/// The hash of a predecessor, and of a taker.
+const H: Hash = [0x44; 32];
+const TAKER: Hash = [0x66; 32];
+
+fn push(hash: Hash, from: Address, expected: u64, claim: u64, ticket: u64) -> Call {
+    Call::Push(Frame { hash, from, expected, claim, chain_id: 1, gas: 21_000, ticket })
+}
+
+/// Expected 5, claim 8, chain 1, gas 21000.
+fn f() -> Call {
+    push(F, A, 5, 8, 7)
+}
+
+fn f_with(chain_id: u64, gas: u64) -> Call {
+    Call::Push(Frame { hash: F, from: A, expected: 5, claim: 8, chain_id, gas, ticket: 7 })
+}
+
+fn poll_of(sender: Address, head: u64, known: impl IntoIterator<Item = u64>, content: Option<Content>) -> Call {
+    Call::Poll { sender, head, known: known.into_iter().collect(), content }
+}
+
+fn poll(head: u64, known: &[u64]) -> Call {
+    poll_of(A, head, known.iter().copied(), None)
+}
+
+fn pair(nonce: u64, hash: Hash) -> Option<Content> {
+    Some(Content { nonces: vec![nonce], hashes: hash.to_vec() })
+}
+
+fn guard(hash: Hash, boundary: Option<u64>, predecessors: &[u64], content: &[u8]) -> Call {
+    Call::Guard(GuardCall { hash, boundary, predecessors: predecessors.to_vec(), content: content.to_vec() })
+}
+
+fn enter(hash: Hash, kind: u8, block: u64, block_hash: Hash) -> Call {
+    let taker = if kind == 3 { TAKER } else { [0; 32] };
+    Call::Enter { hash, consumed: Consumed { kind, block, block_hash, taker } }
+}
+
+fn reorg(block: u64, hash: Option<Hash>) -> Call {
+    Call::Reorg { block, hash }
+}
+
+fn finality(block: u64) -> Call {
+    Call::Finality { block }
+}
+
+fn known_gap(sender: Address, head: u64, pending_count: u64) -> Call {
+    Call::KnownGap { sender, head, pending_count }
+}
+
+/// F waits, is consumed, mined at 100, revived, consumed again, taken at 101, and dead. `samples/scripts.py life` writes it too.
+pub fn life() -> Vec<Call> {
+    vec![
+        f(),
+        poll(5, &[5, 7]),
+        poll(9, &[]),
+        enter(F, 1, 100, BLOCK),
+        poll(9, &[]),
+        reorg(100, Some(OTHER)),
+        Call::State(F),
+        poll(9, &[]),
+        enter(F, 3, 101, OTHER),
+        finality(100),
+        finality(101),
+        Call::Len,
+    ]
+}
+
+fn push_scripts() -> Vec<Vec<Call>> {
+    // 64 frames, a 65th, a 65th with a wide gap, and room again
+    let mut full: Vec<Call> = (1..=65).map(|ticket| push(F, A, 5, 8, ticket)).collect();
+    full.extend([push(F, A, 5, 22, 66), Call::Len, Call::Evict { sender: A }, f()]);
+    vec![vec![f(), push(F, A, 5, 8, 8), push(G, B, 5, 8, 9), Call::Len], full]
+}
+
+fn poll_scripts() -> Vec<Vec<Call>> {
+    let hashes = |n| H.repeat(n);
+    let pairs = |n: u64| Some(Content { nonces: (5..5 + n).collect(), hashes: hashes(n as usize) });
+    let short = || Some(Content { nonces: vec![5], hashes: vec![0; 31] });
+    vec![
+        vec![f(), poll(7, &[7])],
+        // consumed at each poll, held, and rescued at a lower head
+        vec![f(), poll(9, &[]), poll(9, &[]), Call::State(F), poll(8, &[]), Call::State(F)],
+        vec![f(), push(G, A, 5, 6, 8), poll(5, &[5]), Call::Len],
+        // degraded: never rescued, silent at the head that it was last held at
+        vec![f_with(0, 0), poll(5, &[5, 6, 7]), poll(8, &[]), poll(8, &[]), poll(9, &[]), poll(9, &[]), poll(8, &[])],
+        vec![f_with(0, 21_000), poll(5, &[5, 6, 7])],
+        vec![f(), enter(F, 1, 100, BLOCK), poll(9, &[]), poll_of(B, 9, [], None)],
+        // 3, 3 before 4, and 256
+        vec![f(), poll_of(A, 5, 0..257, None), poll_of(A, 5, 0..257, short()), poll_of(A, 5, 0..256, None)],
+        // 4 twice, and 64 pairs, which are no known nonces
+        vec![f(), poll_of(A, 5, [], pairs(65)), poll_of(A, 5, [], short()), poll_of(A, 5, [], pairs(64))],
+    ]
+}
+
+fn guard_scripts() -> Vec<Vec<Call>> {
+    let matching = || poll_of(A, 7, [7], pair(7, H));
+    let mut full: Vec<Call> = (0..65).map(|n| guard([n; 32], Some(5), &[7], &H)).collect();
+    full.push(guard([0; 32], None, &[7], &H));
+    let many: Vec<u64> = (0..17).collect();
+    let odd = [0; 33];
+    vec![
+        vec![f(), guard(F, Some(5), &[7], &H), matching(), poll_of(A, 6, [6, 7], pair(7, H))],
+        // a boundary that is not F's; replaced by a guard without one; another hash at the nonce
+        vec![f(), guard(F, Some(6), &[7], &H), guard(F, None, &[7], &H), matching(), poll_of(A, 7, [7], pair(7, OTHER))],
+        // a guard of a hash that nobody holds
+        vec![guard(F, Some(5), &[7], &H), Call::HasGuard(A), f(), Call::HasGuard(A), matching()],
+        // one hash, two senders
+        vec![
+            f(),
+            push(F, B, 5, 8, 8),
+            guard(F, Some(5), &[7], &H),
+            Call::HasGuard(B),
+            poll(7, &[7]),
+            Call::HasGuard(B),
+            poll_of(B, 7, [7], pair(7, H)),
+        ],
+        vec![
+            guard(F, Some(5), &many, &H),
+            guard(F, Some(5), &many, &odd),
+            guard(F, Some(5), &[7], &odd),
+            guard(F, Some(5), &[7], &H.repeat(17)),
+            guard(F, Some(5), &many[..16], &H.repeat(16)),
+        ],
+        full,
+    ]
+}
+
+fn block_scripts() -> Vec<Vec<Call>> {
+    vec![
+        vec![f(), enter(F, 1, 100, BLOCK), enter(F, 1, 100, BLOCK), enter(G, 1, 100, BLOCK)],
+        // the three kinds
+        vec![
+            f(),
+            push(G, B, 5, 8, 8),
+            push(I, C, 5, 8, 9),
+            enter(F, 1, 100, BLOCK),
+            enter(G, 2, 101, BLOCK),
+            enter(I, 3, 102, BLOCK),
+            Call::State(F),
+            Call::State(G),
+            Call::State(I),
+            Call::TentativeCount,
+            finality(100),
+            finality(101),
+            finality(102),
+            Call::State(F),
+        ],
+        // a held head survives
+        vec![f_with(0, 0), poll(5, &[]), enter(F, 1, 100, BLOCK), poll(6, &[]), reorg(100, None), poll(5, &[]), poll(6, &[])],
+        vec![
+            f(),
+            push(G, B, 5, 8, 8),
+            enter(F, 1, 100, BLOCK),
+            enter(G, 1, 101, BLOCK),
+            reorg(101, Some(BLOCK)),
+            reorg(100, Some(OTHER)),
+            Call::TentativeCount,
+        ],
+        vec![f(), push(G, A, 5, 8, 8), enter(F, 1, 100, BLOCK), Call::Evict { sender: A }, Call::Evict { sender: A }],
+    ]
+}
+
+fn reading_scripts() -> Vec<Vec<Call>> {
+    vec![
+        // one hash, two senders: lookups take the first entry, entering the first tracked one
+        vec![
+            f(),
+            push(F, B, 6, 9, 8),
+            Call::Boundary(F),
+            Call::Boundary(G),
+            Call::State(G),
+            Call::State(F),
+            enter(F, 2, 100, BLOCK),
+            Call::State(F),
+            enter(F, 2, 100, BLOCK),
+            enter(F, 2, 100, BLOCK),
+        ],
+        vec![
+            Call::Blocks,
+            f(),
+            push(G, B, 5, 8, 8),
+            enter(F, 1, 100, BLOCK),
+            enter(G, 1, 100, OTHER),
+            Call::Blocks,
+            push(I, C, 5, 8, 9),
+            enter(I, 1, 99, BLOCK),
+            Call::Blocks,
+        ],
+        vec![
+            f(),
+            push(G, A, 6, 10, 8),
+            known_gap(A, 0, u64::MAX),
+            known_gap(A, 6, 9),
+            known_gap(B, 0, u64::MAX),
+            enter(F, 1, 100, BLOCK),
+            known_gap(A, 0, u64::MAX),
+        ],
+        vec![
+            Call::Senders,
+            Call::Len,
+            push(G, B, 5, 8, 8),
+            f(),
+            push(I, A, 5, 8, 9),
+            Call::Senders,
+            Call::Len,
+            Call::TentativeCount,
+        ],
+        // a tentative entry counts too
+        vec![
+            f(),
+            Call::HasGuard(A),
+            enter(F, 1, 100, BLOCK),
+            guard(F, Some(5), &[7], &H),
+            Call::HasGuard(A),
+            finality(100),
+            f(),
+            Call::HasGuard(A),
+        ],
+    ]
+}
+
+/// The scripts of docs/ANSWERS.md, by call.
+pub fn answers() -> Vec<Vec<Call>> {
+    [push_scripts(), poll_scripts(), guard_scripts(), block_scripts(), reading_scripts()].concat()
+}
