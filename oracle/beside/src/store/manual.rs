@@ -160,7 +160,15 @@ fn block_scripts() -> Vec<Vec<Call>> {
             Call::State(F),
         ],
         // a held head survives
-        vec![f_with(0, 0), poll(5, &[]), enter(F, 1, 100, BLOCK), poll(6, &[]), reorg(100, None), poll(5, &[]), poll(6, &[])],
+        vec![
+            f_with(0, 0),
+            poll(5, &[]),
+            enter(F, 1, 100, BLOCK),
+            poll(6, &[]),
+            reorg(100, None),
+            poll(5, &[]),
+            poll(6, &[]),
+        ],
         vec![
             f(),
             push(G, B, 5, 8, 8),
