@@ -2,7 +2,7 @@
 ghost use mathlib.Core.Path.{_≡_};
 ghost use mathlib.Core.List.{[]};
 ghost use Prim.Native.Nat.{_+_, _-_, _≤_, min};
-ghost use lib.ListN.{length};
+ghost use lib.ListN.{length, replicate};
 ghost use Rattle.lists.specs.Bytes.{eqBytes};
 ghost use Rattle.frames.specs.Frames.{degraded};
 ghost use Rattle.frames.specs.View.{blockOf, frameOf, entriesSeen, guardsSeen};
@@ -139,7 +139,9 @@ impl Guards {
 }
 
 // A frame of zeros, for the places of an array that nothing is listed in.
-pub fn no_frame() -> ParkedFrame {
+pub fn no_frame() -> ParkedFrame
+    ensures { λ r. ⌜ r ≡ record { hash = replicate 32 0; from = replicate 20 0; expected = 0; claim = 0; «chain_id» = 0; gas = 0; ticket = 0 } ⌝ }
+{
     ParkedFrame {
         hash: [0u8; 32],
         from: [0u8; 20],

@@ -6,12 +6,12 @@ use native.Mathlib.Omega.{arith}
 use lib.Dec.{ltb}
 use Rattle.lists.specs.Bytes as bytes
 use Rattle.lists.specs.Lists as lists
-use Rattle.gap_quarantine.specs.Frames as frames
-use Rattle.gap_quarantine.specs.Poll as polls
-use Rattle.gap_quarantine.specs.Rules as rules
-use Rattle.gap_quarantine.specs.Store as stores
-use Rattle.gap_quarantine.specs.Answers as answers
-use Rattle.gap_quarantine.specs.Store.{empty, push, checkFinalized}
+use Rattle.frames.specs.Frames as frames
+use Rattle.frames.specs.Poll as polls
+use Rattle.frames.specs.Rules as rules
+use Rattle.frames.specs.Store as stores
+use Rattle.frames.specs.Answers as answers
+use Rattle.frames.specs.Store.{empty, push, checkFinalized}
 use Rattle.store_bench.specs.Loads.{frame, waiting, rescuing, guarded, mining, after, sizeOf, sized, pushed, guardedBy, told, Goes}
 
 -- the rounds whose store goes to the next, and calls on a store of 8 frames that is kept

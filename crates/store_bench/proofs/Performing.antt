@@ -3,8 +3,8 @@ use Prim.Native.Nat.{ℕ}
 use mathlib.Core.Path.{_≡_, _∙_, ap}
 use mathlib.Core.List.{List}
 use lib.ListN.{length}
-use Rattle.gap_quarantine.specs.Store.{Store, Call, step}
-use Rattle.gap_quarantine.specs.View.{viewOf}
+use Rattle.frames.specs.Store.{Store, Call, step}
+use Rattle.gap_quarantine.specs.Contracts.{viewOf}
 use Rattle.gap_quarantine.specs.Contracts.{heard, Performs}
 use Rattle.gap_quarantine.specs.declared.Quarantine.{Quarantine}
 use Rattle.gap_quarantine.specs.declared.Answered.{Answered}

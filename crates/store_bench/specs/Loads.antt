@@ -1,15 +1,15 @@
 -- The stores that the loops run on, the calls that they make on them, and how many an answer tells of.
 use Prim.Native.Nat.{ℕ, zero, suc}
 use mathlib.Core.Path.{_≡_}
-use mathlib.Core.Bool.{Bool, true, false}
+use mathlib.Core.Bool.{Bool, true, false, cond}
 use mathlib.Core.List.{[], _∷_}
 use mathlib.Core.Option.{none, some}
 use lib.Dec.{ltb}
 use lib.ListN.{set, replicate}
 use Rattle.lists.specs.Bytes.{Bytes}
-use Rattle.gap_quarantine.specs.Frames.{Frame, mined, Guard, reparked}
-use Rattle.gap_quarantine.specs.Store.{Store, empty, Call, push, poll, guard, enterTentative, step}
-use Rattle.gap_quarantine.specs.Answers.{Said, number, turnedAway, said}
+use Rattle.frames.specs.Frames.{Frame, mined, Guard, reparked}
+use Rattle.frames.specs.Store.{Store, empty, Call, push, poll, guard, enterTentative, step}
+use Rattle.frames.specs.Answers.{Said, saysTotal, saysRows, saysRecorded, saysEntered, saysFrames, saysDead, saysRefused, said}
 
 -- ---- frames
 
@@ -77,10 +77,15 @@ guardedBy (suc n) = after (after (guardedBy n) (push (frame n))) (guard (guardAt
 
 -- ---- answers
 
--- the total, how many are listed, 1 for true; 0 for a refusal
+-- the total, how many are listed, 1 for true; 0 for a guard or a refusal
 abbrev pub counted : Said → ℕ
-counted (number n) = n
-counted (turnedAway n) = 0
+counted (saysTotal n) = n
+counted (saysRows n) = n
+counted saysRecorded = 0
+counted (saysEntered b) = cond b 1 0
+counted (saysFrames n) = n
+counted (saysDead n) = n
+counted (saysRefused n) = 0
 
 -- how many a call with so much room for numbers and bytes tells of
 abbrev pub told : Store → Call → ℕ → ℕ → ℕ

@@ -1,6 +1,6 @@
 -- How many each call on a store that is kept tells of.
 use Prim.Native.Nat.{ℕ}
-use Rattle.gap_quarantine.specs.Store.{Store, push, checkFinalized}
+use Rattle.frames.specs.Store.{Store, push, checkFinalized}
 use Rattle.store_bench.specs.Loads.{frame, waiting, guarded, rescuing, mining, told}
 use Rattle.store_bench.specs.declared.once.Once.{Once}
 use Rattle.store_bench.specs.declared.once.Once.the-variants.{Push, Wait, HoldBack, Rescue, Enter, Finality}

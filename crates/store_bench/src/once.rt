@@ -1,8 +1,8 @@
 // One call on a store that is kept, so that each round finds the same store.
 ghost use mathlib.Core.Path.{_≡_};
 ghost use Prim.Native.Nat.{_*_, _≤_, min};
-ghost use Rattle.gap_quarantine.specs.View.{viewOf};
-ghost use Rattle.gap_quarantine.specs.Store.{push, checkFinalized};
+ghost use Rattle.gap_quarantine.specs.Contracts.{viewOf};
+ghost use Rattle.frames.specs.Store.{push, checkFinalized};
 ghost use Rattle.store_bench.specs.Loads.{frame, waiting, guarded, rescuing, mining, told};
 ghost use Rattle.store_bench.specs.Once.{toldOnce};
 use super::stores::capped;

@@ -1,7 +1,8 @@
 // The stores that the loops run on, and how many an answer tells of.
 ghost use mathlib.Core.Path.{_≡_};
 ghost use Prim.Native.Nat.{min};
-ghost use Rattle.gap_quarantine.specs.View.{frameOf, viewOf};
+ghost use Rattle.frames.specs.View.{frameOf};
+ghost use Rattle.gap_quarantine.specs.Contracts.{viewOf};
 ghost use Rattle.gap_quarantine.specs.Contracts.{heard};
 ghost use Rattle.store_bench.specs.Loads.{hashAt, frame, mining, after, pushed, guardedBy, sized, counted};
 use gap_quarantine::Answer;

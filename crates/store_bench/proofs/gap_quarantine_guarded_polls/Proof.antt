@@ -1,7 +1,7 @@
 use Prim.Native.Nat.{_-_}
 use mathlib.Core.Path.{_≡_, _∙_}
 use native.Mathlib.Omega.{arith}
-use Rattle.gap_quarantine.specs.View.{viewOf}
+use Rattle.gap_quarantine.specs.Contracts.{viewOf}
 use Rattle.store_bench.specs.Loads.{guardedBy}
 use Rattle.store_bench.proofs.Computed.{computed}
 use Rattle.store_bench.proofs.Performing.{leads, seen}

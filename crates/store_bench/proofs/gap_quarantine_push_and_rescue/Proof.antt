@@ -1,8 +1,8 @@
 use Prim.Native.Nat.{_-_}
 use mathlib.Core.Path.{_≡_, _∙_}
 use native.Mathlib.Omega.{arith}
-use Rattle.gap_quarantine.specs.View.{viewOf}
-use Rattle.gap_quarantine.specs.Store.{empty}
+use Rattle.gap_quarantine.specs.Contracts.{viewOf}
+use Rattle.frames.specs.Store.{empty}
 use Rattle.store_bench.proofs.Computed.{computed}
 use Rattle.store_bench.proofs.Performing.{leads, seen}
 use Rattle.store_bench.proofs.Rounds.{Ran, fits, next, start, done}

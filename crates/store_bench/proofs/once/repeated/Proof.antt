@@ -1,6 +1,6 @@
 use Prim.Native.Nat.{_-_}
 use native.Mathlib.Omega.{arith}
-use Rattle.gap_quarantine.specs.View.{viewOf}
+use Rattle.gap_quarantine.specs.Contracts.{viewOf}
 use Rattle.store_bench.specs.Once.{toldOnce}
 use Rattle.store_bench.proofs.Rounds.{Ran, fits, next, start, done}
 use borrow.Author.Needs.{needs}
