@@ -2,7 +2,6 @@ pub mod Frames
 pub mod Poll
 pub mod Rules
 pub mod Store
-pub mod Reading
 pub mod Answers
 pub mod View
 pub mod Listing

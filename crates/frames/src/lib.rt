@@ -8,6 +8,10 @@ ghost use Rattle.frames.specs.Frames.{degraded};
 ghost use Rattle.frames.specs.View.{blockOf, frameOf, entriesSeen, guardsSeen};
 ghost use Rattle.frames.specs.Listing.{Puts};
 
+mod matching; // matching.rt: whether a guard matches a frame
+
+pub use matching::guard_matches;
+
 // ---- frames
 
 // Who consumed a frame's nonce, and in which block: the frame itself, another transaction, or another whose hash is known.

@@ -14,7 +14,7 @@ use Rattle.frames.specs.Store.{isTracked, enters, enterWith, enterFirst, anyEnt
 use Rattle.frames.specs.Answers.{said, numbersOf, bytesOf}
 use Rattle.frames.specs.View.{entryOf, entriesSeen, liveOf, guardsSeen}
 use Rattle.gap_quarantine.specs.Contracts.{Performs}
-use Rattle.rescue.specs.LiveGuards.{dropped}
+use Rattle.slots.specs.LiveGuards.{dropped}
 use Rattle.gap_quarantine.specs.Holding.{entersSeen}
 use Rattle.frames.specs.declared.Entry as coded
 use Rattle.frames.specs.declared.NonceConsumed.{NonceConsumed}
@@ -22,7 +22,7 @@ use Rattle.frames.specs.declared.FrameState.the-variants.{Tracked, Tentative}
 use Rattle.gap_quarantine.specs.declared.Quarantine.{Quarantine}
 use Rattle.gap_quarantine.specs.declared.Answer.the-variants.{Entered}
 use Rattle.frames.specs.declared.Slots.{Slots}
-use Rattle.rescue.proofs.LiveGuards.{dropped-live}
+use Rattle.slots.proofs.LiveGuards.{dropped-live}
 use Rattle.gap_quarantine.proofs.Calls.{left}
 
 -- ---- the test of an entry

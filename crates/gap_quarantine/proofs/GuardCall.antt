@@ -20,8 +20,8 @@ use Rattle.frames.specs.Store.{putGuard, badContents, noRoomFor, effect, inputR
 use Rattle.frames.specs.Answers.{said, numbersOf, bytesOf}
 use Rattle.frames.specs.View.{kindOf, guardSeen, liveOf, guardsSeen}
 use Rattle.gap_quarantine.specs.Holding.{Records}
-use Rattle.rescue.specs.LiveGuards.{slotAt, Kept}
-use Rattle.rescue.proofs.LiveGuards.{live-more}
+use Rattle.slots.specs.LiveGuards.{slotAt, Kept}
+use Rattle.slots.proofs.LiveGuards.{live-more}
 use Rattle.frames.specs.declared.Slot.{Slot}
 use Rattle.frames.specs.declared.RescueGuard.{RescueGuard}
 use Rattle.frames.specs.declared.RescueKind.{RescueKind}

@@ -1,7 +1,7 @@
 // The calls that only read: they take the store by value and return none.
 ghost use mathlib.Core.Path.{_≡_};
 ghost use Rattle.lists.specs.Lists.{isEmpty};
-ghost use Rattle.frames.specs.Reading.{stateOf, expectedBoundary, len, tentativeCount, hasGuardForSender};
+ghost use Rattle.reading.specs.Reading.{stateOf, expectedBoundary, len, tentativeCount, hasGuardForSender};
 ghost use Rattle.reading.specs.Contracts.{States, boundarySeen, BlocksRead, SendersRead, GapRead};
 ghost use Rattle.gap_quarantine.specs.Contracts.{viewOf};
 use super::Quarantine;

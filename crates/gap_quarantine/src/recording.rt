@@ -15,8 +15,8 @@ use frames::Slot;
 use frames::Slots;
 use frames::clamped;
 use refusal::Refusal;
-use rescue::find_slot;
-use rescue::keep_live;
+use slots::find_slot;
+use slots::keep_live;
 
 // An answer, and the guards after the call.
 pub struct Recorded {

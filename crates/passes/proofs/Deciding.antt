@@ -25,7 +25,7 @@ use Rattle.passes.specs.declared.poll.Course.{Course}
 use Rattle.passes.specs.declared.poll.Course.the-variants.{Silent, Told, Rescued}
 use Rattle.passes.specs.declared.poll.QuarantineDecision as decision
 use Rattle.passes.specs.declared.poll.QuarantineDecision.the-variants.{Rescue, StillWaiting}
-use Rattle.rescue.proofs.Matching.{empty-is, filled-not-empty}
+use Rattle.frames.proofs.Matches.{empty-is, filled-not-empty}
 
 -- ---- nonces gathered one by one
 

@@ -16,7 +16,7 @@ use Rattle.frames.specs.Poll.{Content, predecessors, unknown, guardMatches, hel
 use Rattle.frames.specs.Rules.{onlyOf}
 use Rattle.frames.specs.Store.{guardOf, walk}
 use Rattle.frames.specs.View.{frameOf, entryOf, guardSeen, liveOf, guardsSeen}
-use Rattle.rescue.specs.LiveGuards.{slotAt, dropped}
+use Rattle.slots.specs.LiveGuards.{slotAt, dropped}
 use Rattle.passes.specs.Passes.{Passes}
 use Rattle.passes.specs.PollRows.{rowSeen, Decides}
 use Rattle.frames.specs.declared.Entry as coded
@@ -27,7 +27,7 @@ use Rattle.passes.specs.declared.poll.PollRow.{PollRow}
 use Rattle.passes.specs.declared.poll.Decided.{Decided}
 use Rattle.passes.specs.declared.poll.Course.the-variants.{Silent, Told, Rescued}
 use Rattle.passes.specs.declared.poll.QuarantineDecision.the-variants.{StillWaiting}
-use Rattle.rescue.proofs.LiveGuards.{slot-missing, slot-found, dropped-live}
+use Rattle.slots.proofs.LiveGuards.{slot-missing, slot-found, dropped-live}
 use Rattle.passes.proofs.Passing.{standingOf, Turn}
 use Rattle.passes.proofs.Passing as passing
 use Rattle.passes.proofs.Visits.{other-sender}

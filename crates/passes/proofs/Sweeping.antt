@@ -12,13 +12,13 @@ use Rattle.frames.specs.Poll.{stay, leave}
 use Rattle.frames.specs.Store.{dropGuard, walk}
 use Rattle.frames.specs.View.{entryOf, liveOf}
 use Rattle.passes.specs.Passes.{Passes}
-use Rattle.rescue.specs.LiveGuards.{dropped}
+use Rattle.slots.specs.LiveGuards.{dropped}
 use Rattle.frames.specs.declared.Entry as coded
 use Rattle.frames.specs.declared.FrameState.the-variants.{Tracked}
 use Rattle.frames.specs.declared.HeldHead.the-variants.{Never}
 use Rattle.frames.specs.declared.RescueGuard.{RescueGuard}
 use Rattle.frames.specs.declared.Slot.{Slot}
-use Rattle.rescue.proofs.LiveGuards.{dropped-live}
+use Rattle.slots.proofs.LiveGuards.{dropped-live}
 use Rattle.passes.proofs.Passing.{standingOf, Turn}
 use Rattle.passes.proofs.Passing as passing
 

@@ -15,7 +15,7 @@ use frames::clamped;
 use frames::no_frame;
 use frames::same_address;
 use frames::same_hash;
-use rescue::drop_slots;
+use slots::drop_slots;
 
 pub mod poll; // poll.rt: what a poll decides of an entry, and its pass
 

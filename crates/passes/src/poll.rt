@@ -24,12 +24,12 @@ use frames::RescueGuard;
 use frames::Slots;
 use frames::clamped;
 use frames::gap_count;
+use frames::guard_matches;
 use frames::is_degraded;
 use frames::no_frame;
 use frames::same_address;
-use rescue::drop_slots;
-use rescue::find_slot;
-use rescue::guard_matches;
+use slots::drop_slots;
+use slots::find_slot;
 
 // ---- the gap
 

@@ -14,7 +14,7 @@ use Rattle.lists.proofs.Elements.{each-keep, each-join, in-append, in-keep}
 use Rattle.frames.specs.Frames.{State, tracked, tentative, Frame, Entry, degraded}
 use Rattle.frames.specs.Poll.{gap}
 use Rattle.frames.specs.Store.{empty, NotBefore, Sorted, isTracked, entriesOf, wideGap, run}
-use Rattle.frames.specs.Reading.{Block, putBlock, withBlock, blocksFrom, tentativeBlocks, anyFrom, sendersFrom, senders, putNumber, putNumbers, window, poolKnownGap}
+use Rattle.reading.specs.Reading.{Block, putBlock, withBlock, blocksFrom, tentativeBlocks, anyFrom, sendersFrom, senders, putNumber, putNumbers, window, poolKnownGap}
 use Rattle.store_laws.specs.Pairs.{Pairwise}
 use Rattle.store_laws.specs.Reachable.{Reachable}
 use Rattle.store_laws.specs.Listings.{hashOf, hashIn, lastHash, Below, inWindow, EveryListing}

@@ -7,7 +7,7 @@ use mathlib.Core.Option.{Option, none, some, Option·some-injective, Option·non
 use Rattle.lists.specs.Lists.{isIn}
 use Rattle.lists.proofs.ByteOrder.{clash}
 use Rattle.frames.specs.Store.{Store, Call, push, poll, guard, enterTentative, checkReorg, checkFinalized, evictSender, when, orElse, inputRefusal, roomRefusal, refusal, unless, step}
-use Rattle.frames.specs.Reading.{blocksRefusal, sendersRefusal, gapRefusal}
+use Rattle.reading.specs.Reading.{blocksRefusal, sendersRefusal, gapRefusal}
 use Rattle.store_laws.specs.Refusals.{placeNumbers, RefusedByPlace, RefusedByInputs, ReadingRefused, RefusedChangesNothing}
 
 -- a refusal, if there is one, is among these numbers

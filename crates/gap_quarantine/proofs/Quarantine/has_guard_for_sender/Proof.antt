@@ -3,7 +3,7 @@ use mathlib.Core.Bool.{not}
 use native.Mathlib.Omega.{arith}
 use Rattle.lists.specs.Lists.{isEmpty}
 use Rattle.lists.proofs.Compacting.{long}
-use Rattle.frames.specs.Reading.{hasGuardForSender}
+use Rattle.reading.specs.Reading.{hasGuardForSender}
 use Rattle.reading.proofs.Gathering.{slots-are-guards}
 use borrow.Author.Needs.{needs}
 use Rattle.gap_quarantine.proofs.Quarantine.has_guard_for_sender.Statement.{statement}

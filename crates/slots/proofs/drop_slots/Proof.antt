@@ -2,10 +2,10 @@ use Prim.Native.Nat.{_-_}
 use native.Mathlib.Omega.{arith}
 use mathlib.Core.Path.{refl, sym, _∙_}
 use Rattle.lists.proofs.Compacting.{long}
-use Rattle.rescue.proofs.LiveGuards.{Dropping, slot-dropped, slot-stays, dropped-all}
+use Rattle.slots.proofs.LiveGuards.{Dropping, slot-dropped, slot-stays, dropped-all}
 use borrow.Author.Needs.{needs}
-use Rattle.rescue.proofs.drop_slots.Statement.{statement}
-use Rattle.rescue.proofs.drop_slots.Tie as tie
+use Rattle.slots.proofs.drop_slots.Statement.{statement}
+use Rattle.slots.proofs.drop_slots.Tie as tie
 
 abbrev Inv-loop : tie.InvT-loop
 Inv-loop hash slots₀ i₀ slots i = Dropping hash slots₀ slots i

@@ -1,2 +1,1 @@
 pub mod LiveGuards
-pub mod Matching

@@ -1,8 +1,8 @@
 use mathlib.Core.Path.{_∙_}
 use borrow.Author.Tests.{not-true, not-false}
 use borrow.Author.Needs.{needs}
-use Rattle.rescue.proofs.has_live.Statement.{statement}
-use Rattle.rescue.proofs.has_live.Tie as tie
+use Rattle.slots.proofs.has_live.Statement.{statement}
+use Rattle.slots.proofs.has_live.Tie as tie
 
 returns : tie.Need-returns
 returns c = rw (not-true ((c .before) .args .s .live) (c .if1 .taken))

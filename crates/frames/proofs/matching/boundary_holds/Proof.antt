@@ -1,7 +1,7 @@
 use Rattle.frames.specs.Poll.{boundaryHolds}
 use borrow.Author.Needs.{needs}
-use Rattle.rescue.proofs.boundary_holds.Statement.{statement}
-use Rattle.rescue.proofs.boundary_holds.Tie as tie
+use Rattle.frames.proofs.matching.boundary_holds.Statement.{statement}
+use Rattle.frames.proofs.matching.boundary_holds.Tie as tie
 
 enum-known-kind : tie.Need-enum-known-kind
 enum-known-kind c = search needs

@@ -3,10 +3,10 @@ use native.Mathlib.Omega.{arith}
 use mathlib.Core.Path.{refl}
 use Rattle.lists.proofs.Compacting.{long}
 use Rattle.frames.specs.View.{liveOf}
-use Rattle.rescue.proofs.LiveGuards.{Living, guard-kept, guard-gone, guards-kept}
+use Rattle.slots.proofs.LiveGuards.{Living, guard-kept, guard-gone, guards-kept}
 use borrow.Author.Needs.{needs}
-use Rattle.rescue.proofs.keep_live.Statement.{statement}
-use Rattle.rescue.proofs.keep_live.Tie as tie
+use Rattle.slots.proofs.keep_live.Statement.{statement}
+use Rattle.slots.proofs.keep_live.Tie as tie
 
 abbrev Inv-loop : tie.InvT-loop
 Inv-loop held len slots₀ guards₀ w₀ i₀ slots guards w i = Living len slots₀ guards₀ slots guards w i

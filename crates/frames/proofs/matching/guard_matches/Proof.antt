@@ -2,11 +2,11 @@ use native.Mathlib.Omega.{arith}
 use mathlib.Core.Path.{_≡_, refl, sym, _∙_}
 use lib.ListN.{length}
 use borrow.Author.Tests.{not-true, not-false}
 use Rattle.frames.specs.View.{guardSeen}
-use Rattle.rescue.proofs.Matching.{front, front-hashes, other-preds, other-boundary, by-content}
+use Rattle.frames.proofs.Matches.{front, front-hashes, other-preds, other-boundary, by-content}
 use borrow.Author.Needs.{needs}
-use Rattle.rescue.proofs.guard_matches.Statement.{statement}
-use Rattle.rescue.proofs.guard_matches.Tie as tie
+use Rattle.frames.proofs.matching.guard_matches.Statement.{statement}
+use Rattle.frames.proofs.matching.guard_matches.Tie as tie
 
 sixteen-requires : tie.Need-sixteen-requires
 sixteen-requires c κs = search needs

@@ -3,11 +3,11 @@ use native.Mathlib.Omega.{arith}
 use mathlib.Core.Path.{_≡_, refl, sym, _∙_}
 use lib.ListN.{length, drop}
 use borrow.Author.Tests.{eq-eqb, ne-eqb}
 use Rattle.frames.specs.Poll.{firstIs}
-use Rattle.rescue.proofs.Matching.{first-turn, first-none}
+use Rattle.frames.proofs.Matches.{first-turn, first-none}
 use borrow.Author.Needs.{needs}
-use Rattle.rescue.proofs.first_is.Statement.{statement}
-use Rattle.rescue.proofs.first_is.Tie as tie
+use Rattle.frames.proofs.matching.first_is.Statement.{statement}
+use Rattle.frames.proofs.matching.first_is.Tie as tie
 
 abbrev Inv-loop : tie.InvT-loop
 Inv-loop n hash nonces hashes i₀ at₀ i at = (i ≤ length nonces) × (at ≡ 32 * i) × (firstIs n hash nonces hashes ≡ firstIs n hash (drop i nonces) (drop at hashes))

@@ -14,7 +14,7 @@ use Rattle.lists.proofs.Compacting.{clamp, front-more}
 use Rattle.frames.specs.Frames.{Guard}
 use Rattle.frames.specs.Store.{guardOf, dropGuard}
 use Rattle.frames.specs.View.{guardSeen, liveOf}
-use Rattle.rescue.specs.LiveGuards.{hasLive, slotAt, dropped, Kept}
+use Rattle.slots.specs.LiveGuards.{hasLive, slotAt, dropped, Kept}
 use Rattle.frames.specs.declared.RescueGuard.{RescueGuard}
 use Rattle.frames.specs.declared.RescueKind.the-variants.{Unhydratable}
 use Rattle.frames.specs.declared.Slot.{Slot}

@@ -1,10 +1,10 @@
 use native.Mathlib.Omega.{arith}
 use mathlib.Core.Path.{sym, _∙_}
 use borrow.Author.Tests.{not-true, not-false}
 use Rattle.frames.specs.Poll.{contentMatches}
-use Rattle.rescue.proofs.Matching.{no-contents, no-nonces, by-contents}
-use Rattle.rescue.proofs.content_matches.Statement.{statement}
-use Rattle.rescue.proofs.content_matches.Tie as tie
+use Rattle.frames.proofs.Matches.{no-contents, no-nonces, by-contents}
+use Rattle.frames.proofs.matching.content_matches.Statement.{statement}
+use Rattle.frames.proofs.matching.content_matches.Tie as tie
 
 returns : tie.Need-returns
 unfolding contentMatches

@@ -3,11 +3,11 @@ use native.Mathlib.Omega.{arith}
 use mathlib.Core.Path.{_≡_, sym, _∙_}
 use lib.ListN.{length, take, drop}
 use Rattle.lists.proofs.Compacting.{long}
-use Rattle.rescue.specs.LiveGuards.{slotAt}
-use Rattle.rescue.proofs.LiveGuards.{slot-here, slot-later, slot-none}
+use Rattle.slots.specs.LiveGuards.{slotAt}
+use Rattle.slots.proofs.LiveGuards.{slot-here, slot-later, slot-none}
 use borrow.Author.Needs.{needs}
-use Rattle.rescue.proofs.find_slot.Statement.{statement}
-use Rattle.rescue.proofs.find_slot.Tie as tie
+use Rattle.slots.proofs.find_slot.Statement.{statement}
+use Rattle.slots.proofs.find_slot.Tie as tie
 
 abbrev Inv-loop : tie.InvT-loop
 Inv-loop len hash ss i₀ i = (i ≤ len) × (length (ss .slots) ≡ 64) × (slotAt hash (take len (ss .slots)) ≡ i + slotAt hash (drop i (take len (ss .slots))))

@@ -3,11 +3,11 @@ use native.Mathlib.Omega.{arith}
 use mathlib.Core.Path.{_≡_, refl, sym, _∙_}
 use lib.ListN.{length, drop}
 use borrow.Author.Tests.{not-true, not-false}
 use Rattle.frames.specs.Poll.{contentsHold}
-use Rattle.rescue.proofs.Matching.{hold-turn, hold-none, hold-short}
+use Rattle.frames.proofs.Matches.{hold-turn, hold-none, hold-short}
 use borrow.Author.Needs.{needs}
-use Rattle.rescue.proofs.contents_hold.Statement.{statement}
-use Rattle.rescue.proofs.contents_hold.Tie as tie
+use Rattle.frames.proofs.matching.contents_hold.Statement.{statement}
+use Rattle.frames.proofs.matching.contents_hold.Tie as tie
 
 abbrev Inv-loop : tie.InvT-loop
 Inv-loop preds guarded count nonces hashes i₀ at₀ i at = (i ≤ length preds) × (at ≡ 32 * i) × (contentsHold preds guarded (record { nonces = nonces; hashes = hashes }) ≡ contentsHold (drop i preds) (drop at guarded) (record { nonces = nonces; hashes = hashes }))
