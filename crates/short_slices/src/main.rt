@@ -5,7 +5,7 @@ use gap_quarantine::Quarantine;
 
 mod changing; // changing.rt: the calls that may change the store
 mod print; // print.rt: a line for each call
-mod reading; // reading.rt: the calls that only read
+mod reads; // reads.rt: the calls that only read
 
 // What every element of a slice is when it is lent.
 pub(crate) const MARK: u8 = 170;
@@ -59,7 +59,7 @@ fn main() {
     changing::evictions();
     changing::reorganisations();
     changing::finalities();
-    reading::blocks();
-    reading::senders();
-    reading::gaps();
+    reads::blocks();
+    reads::senders();
+    reads::gaps();
 }

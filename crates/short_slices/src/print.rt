@@ -1,20 +1,15 @@
 // A line for each call: its name and how long its slices are, its answer, and whether slices and store are as they were.
 use super::MARK;
+use console::text;
 use gap_quarantine::Answer;
 use gap_quarantine::Listed;
 use gap_quarantine::Quarantine;
-use libc::STDOUT_FILENO;
 use refusal::Refusal;
-
-pub(crate) fn text(t: &[u8]) {
-    io::write_all(STDOUT_FILENO, t);
-}
 
 // A word, a space and a number.
 fn count(word: &[u8], n: u64) {
     text(word);
-    text(b" ");
-    io::print_decimal(STDOUT_FILENO, n);
+    console::next(n);
 }
 
 pub(crate) fn call(name: &[u8], len: usize) {

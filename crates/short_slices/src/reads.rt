@@ -11,7 +11,7 @@ fn list_blocks(numbers: &mut [u64], bytes: &mut [u8]) {
     print::listed(b"blocks", q.tentative_blocks(&mut *numbers, &mut *bytes));
     print::slice(b"numbers", print::all_marked(numbers));
     print::slice(b"bytes", print::all_marked_bytes(bytes));
-    print::text(b"\n");
+    console::text(b"\n");
 }
 
 pub(crate) fn blocks() {
@@ -32,7 +32,7 @@ fn list_senders(bytes: &mut [u8]) {
     print::call(b"senders", bytes.len());
     print::listed(b"senders", q.senders(&mut *bytes));
     print::slice(b"slice", print::all_marked_bytes(bytes));
-    print::text(b"\n");
+    console::text(b"\n");
 }
 
 pub(crate) fn senders() {
@@ -48,7 +48,7 @@ fn list_gap(numbers: &mut [u64]) {
     print::call(b"pool_known_gap", numbers.len());
     print::listed(b"numbers", q.pool_known_gap([1u8; 20], 5, 8, &mut *numbers));
     print::slice(b"slice", print::all_marked(numbers));
-    print::text(b"\n");
+    console::text(b"\n");
 }
 
 pub(crate) fn gaps() {
