@@ -207,7 +207,8 @@ impl Quarantine {
         ensures { λ r. ⌜ Performs self (evictSender sender) (now (tickets .entry)) [] r (now (tickets .exit)) [] ⌝ }
     {
         let pending = self.pending;
-        let slots = self.repark_guard.slots;
+        let mut guards = self.repark_guard;
+        let slots = guards.slots;
         let swept = passes::evict_pass(pending, slots, sender);
         let count = swept.count;
         if tickets.len() < count {
@@ -220,13 +221,7 @@ impl Quarantine {
         listing::write_tickets(frames, count, tickets);
         let after = swept.pending;
         let live = swept.slots;
-        let standing = self.repark_guard.guards;
-        let guard_len = self.repark_guard.len;
-        let guards = Guards {
-            slots: live,
-            guards: standing,
-            len: guard_len,
-        };
+        guards.slots = live;
         Answered {
             answer: Answer::Frames(count),
             store: Quarantine {
@@ -247,7 +242,8 @@ impl Quarantine {
         ensures { λ r. ⌜ Performs self (checkReorg block (hashOf «has_hash» hash)) (now (tickets .entry)) [] r (now (tickets .exit)) [] ⌝ }
     {
         let pending = self.pending;
-        let slots = self.repark_guard.slots;
+        let mut guards = self.repark_guard;
+        let slots = guards.slots;
         let swept = passes::reorg_pass(pending, slots, block, has_hash, hash);
         let count = swept.count;
         if tickets.len() < count {
@@ -260,13 +256,7 @@ impl Quarantine {
         listing::write_tickets(frames, count, tickets);
         let after = swept.pending;
         let live = swept.slots;
-        let standing = self.repark_guard.guards;
-        let guard_len = self.repark_guard.len;
-        let guards = Guards {
-            slots: live,
-            guards: standing,
-            len: guard_len,
-        };
+        guards.slots = live;
         Answered {
             answer: Answer::Frames(count),
             store: Quarantine {
@@ -281,7 +271,8 @@ impl Quarantine {
         ensures { λ r. ⌜ Performs self (checkFinalized n) (now (numbers .entry)) (now (bytes .entry)) r (now (numbers .exit)) (now (bytes .exit)) ⌝ }
     {
         let pending = self.pending;
-        let slots = self.repark_guard.slots;
+        let mut guards = self.repark_guard;
+        let slots = guards.slots;
         let finished = passes::final_pass(pending, slots, n);
         let count = finished.count;
         if listing::lacks_room(numbers.len(), bytes.len(), count) {
@@ -295,13 +286,7 @@ impl Quarantine {
         listing::write_hashes(dead, count, bytes);
         let after = finished.pending;
         let live = finished.slots;
-        let standing = self.repark_guard.guards;
-        let guard_len = self.repark_guard.len;
-        let guards = Guards {
-            slots: live,
-            guards: standing,
-            len: guard_len,
-        };
+        guards.slots = live;
         Answered {
             answer: Answer::Dead(count),
             store: Quarantine {

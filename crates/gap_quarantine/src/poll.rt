@@ -12,7 +12,6 @@ ghost use Rattle.gap_quarantine.specs.Contracts.{Performs};
 use super::Answer;
 use super::Answered;
 use super::Quarantine;
-use frames::Guards;
 use frames::Pending;
 use frames::clamped;
 use frames::same_address;
@@ -157,7 +156,7 @@ pub(crate) fn poll_inner(
             store: q,
         };
     }
-    let guards = q.repark_guard;
+    let mut guards = q.repark_guard;
     let done = poll_pass(
         pending,
         guards,
@@ -173,18 +172,12 @@ pub(crate) fn poll_inner(
     write_rows(listed, n, rows);
     let after = done.pending;
     let live = done.slots;
-    let standing = q.repark_guard.guards;
-    let guard_len = q.repark_guard.len;
-    let store = Quarantine {
-        pending: after,
-        repark_guard: Guards {
-            slots: live,
-            guards: standing,
-            len: guard_len,
-        },
-    };
+    guards.slots = live;
     Answered {
         answer: Answer::Rows(n),
-        store: store,
+        store: Quarantine {
+            pending: after,
+            repark_guard: guards,
+        },
     }
 }

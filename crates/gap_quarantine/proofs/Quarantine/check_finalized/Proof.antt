@@ -14,17 +14,17 @@ lacks-room-requires : tie.Need-lacks-room-requires
 lacks-room-requires c κs = c .final-pass .ensures 0 [] .fits
 
 returns : tie.Need-returns
-returns c = short-dead ((c .before .before .before .before .before .before .before) .args .self) _ ((c .before .before) .final-pass .result) ((c .before .before) .final-pass .ensures ((c .before .before .before .before .before .before .before) .args .self .«repark_guard» .len) ((c .before .before .before .before .before .before .before) .args .self .«repark_guard» .guards)) ((c .before .before .before .before .before .before .before) .args .numbers .now) ((c .before .before .before .before .before .before .before) .args .bytes .now) (sym ((c .before) .lacks-room .ensures) ∙ c .if1 .taken)
+returns c = short-dead ((c .before .before .before .before .before .before .before .before) .args .self) _ ((c .before .before) .final-pass .result) ((c .before .before) .final-pass .ensures ((c .before .before .before .before .before .before .before .before) .args .self .«repark_guard» .len) ((c .before .before .before .before .before .before .before .before) .args .self .«repark_guard» .guards)) ((c .before .before .before .before .before .before .before .before) .args .numbers .now) ((c .before .before .before .before .before .before .before .before) .args .bytes .now) (sym ((c .before) .lacks-room .ensures) ∙ c .if1 .taken)
 
 write-dead-requires : tie.Need-write-dead-requires
 write-dead-requires c κs =
     let count = (c .before .before .before .before) .final-pass .result .count in
-    ((c .before .before .before .before) .final-pass .ensures 0 [] .fits, has-room (length ((c .before .before .before .before .before .before .before .before .before) .args .numbers .now)) (3 * count) (length ((c .before .before .before .before .before .before .before .before .before) .args .bytes .now)) (64 * count) (sym ((c .before .before .before) .lacks-room .ensures) ∙ (c .before .before) .if1 .left) .0)
+    ((c .before .before .before .before) .final-pass .ensures 0 [] .fits, has-room (length ((c .before .before .before .before .before .before .before .before .before .before) .args .numbers .now)) (3 * count) (length ((c .before .before .before .before .before .before .before .before .before .before) .args .bytes .now)) (64 * count) (sym ((c .before .before .before) .lacks-room .ensures) ∙ (c .before .before) .if1 .left) .0)
 
 write-hashes-requires : tie.Need-write-hashes-requires
 write-hashes-requires c κs =
     let count = (c .before .before .before .before .before .before .before .before) .final-pass .result .count in
-    ((c .before .before .before .before .before .before .before .before) .final-pass .ensures 0 [] .fits, has-room (length ((c .before .before .before .before .before .before .before .before .before .before .before .before .before) .args .numbers .now)) (3 * count) (length ((c .before .before .before .before .before .before .before .before .before .before .before .before .before) .args .bytes .now)) (64 * count) (sym ((c .before .before .before .before .before .before .before) .lacks-room .ensures) ∙ (c .before .before .before .before .before .before) .if1 .left) .1)
+    ((c .before .before .before .before .before .before .before .before) .final-pass .ensures 0 [] .fits, has-room (length ((c .before .before .before .before .before .before .before .before .before .before .before .before .before .before) .args .numbers .now)) (3 * count) (length ((c .before .before .before .before .before .before .before .before .before .before .before .before .before .before) .args .bytes .now)) (64 * count) (sym ((c .before .before .before .before .before .before .before) .lacks-room .ensures) ∙ (c .before .before .before .before .before .before) .if1 .left) .1)
 
 same-length : tie.Need-same-length
 same-length c = search needs
@@ -34,8 +34,8 @@ same-length-2 c = search needs
 
 returns-2 : tie.Need-returns-2
 returns-2 c =
-    dead-listed ((c .before .before .before .before .before .before .before .before .before .before .before .before .before .before .before .before .before .before .before) .args .self) _ ((c .before .before .before .before .before .before .before .before .before .before .before .before .before .before) .final-pass .result) ((c .before .before .before .before .before .before .before .before .before .before .before .before .before .before) .final-pass .ensures ((c .before .before .before .before .before .before .before .before .before .before .before .before .before .before .before .before .before .before .before) .args .self .«repark_guard» .len) ((c .before .before .before .before .before .before .before .before .before .before .before .before .before .before .before .before .before .before .before) .args .self .«repark_guard» .guards)) ((c .before .before .before .before .before .before .before .before .before .before .before .before .before .before .before .before .before .before .before) .args .numbers .now) ((c .before .before .before .before .before .before .before .before .before .before .before .before .before .before .before .before .before .before .before) .args .bytes .now) _ _
-    (sym ((c .before .before .before .before .before .before .before .before .before .before .before .before .before) .lacks-room .ensures) ∙ (c .before .before .before .before .before .before .before .before .before .before .before .before) .if1 .left) ((c .before .before .before .before .before .before .before .before .before) .write-dead .ensures) ((c .before .before .before .before .before) .write-hashes .ensures)
+    dead-listed ((c .before .before .before .before .before .before .before .before .before .before .before .before .before .before .before .before .before .before .before) .args .self) _ ((c .before .before .before .before .before .before .before .before .before .before .before .before .before) .final-pass .result) ((c .before .before .before .before .before .before .before .before .before .before .before .before .before) .final-pass .ensures ((c .before .before .before .before .before .before .before .before .before .before .before .before .before .before .before .before .before .before .before) .args .self .«repark_guard» .len) ((c .before .before .before .before .before .before .before .before .before .before .before .before .before .before .before .before .before .before .before) .args .self .«repark_guard» .guards)) ((c .before .before .before .before .before .before .before .before .before .before .before .before .before .before .before .before .before .before .before) .args .numbers .now) ((c .before .before .before .before .before .before .before .before .before .before .before .before .before .before .before .before .before .before .before) .args .bytes .now) _ _
+    (sym ((c .before .before .before .before .before .before .before .before .before .before .before .before) .lacks-room .ensures) ∙ (c .before .before .before .before .before .before .before .before .before .before .before) .if1 .left) ((c .before .before .before .before .before .before .before .before) .write-dead .ensures) ((c .before .before .before .before) .write-hashes .ensures)
 
 pub check-finalized-spec : {M : Type 1} → statement M
 check-finalized-spec =

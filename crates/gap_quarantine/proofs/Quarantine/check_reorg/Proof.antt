@@ -8,7 +8,7 @@ reorg-pass-requires : tie.Need-reorg-pass-requires
 reorg-pass-requires c κs = search needs
 
 returns : tie.Need-returns
-returns c = short-tickets ((c .before .before .before .before .before) .args .self) _ _ ((c .before) .reorg-pass .result) ((c .before) .reorg-pass .ensures ((c .before .before .before .before .before) .args .self .«repark_guard» .len) ((c .before .before .before .before .before) .args .self .«repark_guard» .guards)) (reorg-does _ _) (reorg-free _ _) ((c .before .before .before .before .before) .args .tickets .now) (c .if1 .taken)
+returns c = short-tickets ((c .before .before .before .before .before .before) .args .self) _ _ ((c .before) .reorg-pass .result) ((c .before) .reorg-pass .ensures ((c .before .before .before .before .before .before) .args .self .«repark_guard» .len) ((c .before .before .before .before .before .before) .args .self .«repark_guard» .guards)) (reorg-does _ _) (reorg-free _ _) ((c .before .before .before .before .before .before) .args .tickets .now) (c .if1 .taken)
 
 write-tickets-requires : tie.Need-write-tickets-requires
 write-tickets-requires c κs = ((c .before .before .before) .reorg-pass .ensures 0 [] .fits, (c .before .before) .if1 .left)
@@ -17,7 +17,7 @@ same-length : tie.Need-same-length
 same-length c = search needs
 
 returns-2 : tie.Need-returns-2
-returns-2 c = tickets-listed ((c .before .before .before .before .before .before .before .before .before .before .before .before .before) .args .self) _ _ ((c .before .before .before .before .before .before .before .before .before) .reorg-pass .result) ((c .before .before .before .before .before .before .before .before .before) .reorg-pass .ensures ((c .before .before .before .before .before .before .before .before .before .before .before .before .before) .args .self .«repark_guard» .len) ((c .before .before .before .before .before .before .before .before .before .before .before .before .before) .args .self .«repark_guard» .guards)) (reorg-does _ _) (reorg-free _ _) ((c .before .before .before .before .before .before .before .before .before .before .before .before .before) .args .tickets .now) _ ((c .before .before .before .before .before .before .before .before) .if1 .left) ((c .before .before .before .before .before) .write-tickets .ensures)
+returns-2 c = tickets-listed ((c .before .before .before .before .before .before .before .before .before .before .before .before .before) .args .self) _ _ ((c .before .before .before .before .before .before .before .before) .reorg-pass .result) ((c .before .before .before .before .before .before .before .before) .reorg-pass .ensures ((c .before .before .before .before .before .before .before .before .before .before .before .before .before) .args .self .«repark_guard» .len) ((c .before .before .before .before .before .before .before .before .before .before .before .before .before) .args .self .«repark_guard» .guards)) (reorg-does _ _) (reorg-free _ _) ((c .before .before .before .before .before .before .before .before .before .before .before .before .before) .args .tickets .now) _ ((c .before .before .before .before .before .before .before) .if1 .left) ((c .before .before .before .before) .write-tickets .ensures)
 
 pub check-reorg-spec : {M : Type 1} → statement M
 check-reorg-spec =

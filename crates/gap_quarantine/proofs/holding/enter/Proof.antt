@@ -37,7 +37,7 @@ returns-2 : tie.Need-returns-2
 returns-2 c =
     let s = (c .before .before .before .before .before .before .before .before .before .before) in
     present ((c .before .before .before .before .before .before .before .before .before .before) .args .q) _ _ _ _ (search (needs, long)) ((c .before .before .before .before .before .before .before .before) .clamped .ensures) ((c .before .before .before .before .before .before) .entering .ensures) noEntry
-    ((c .before .before .before) .made-tentative .result) ((c .before) .drop-slots .result) ((c .before .before .before .before .before) .if1 .left) ((c .before .before .before) .made-tentative .ensures) ((c .before) .drop-slots .ensures)
+    ((c .before .before .before) .made-tentative .result) (c .drop-slots .result) ((c .before .before .before .before .before) .if1 .left) ((c .before .before .before) .made-tentative .ensures) (c .drop-slots .ensures)
 
 pub enter-spec : {M : Type 1} → statement M
 enter-spec =

@@ -45,10 +45,10 @@ same-length c = search needs
 
 returns-4 : tie.Need-returns-4
 returns-4 c =
-    let a = (c .before .before .before .before .before .before .before .before .before .before .before .before .before .before .before .before .before .before .before .before) .args in
-    let n = (c .before .before .before .before .before .before .before .before .before .before .before) .count-of .ensures .0 in
-    let p = (c .before .before .before .before .before .before .before .before) .poll-pass in
-    passed (a .q) (a .sender) (a .head) (a .known .now) _ (a .rows .now) ((c .before .before .before .before .before .before .before .before .before .before .before .before .before .before .before) .if1 .left) (sym ((c .before .before .before .before .before .before .before .before .before .before .before .before .before .before) .bad-content .ensures) ∙ (c .before .before .before .before .before .before .before .before .before .before .before .before .before) .if2 .left) (omega (arith, n, (c .before .before .before .before .before .before .before .before .before .before) .if3 .left)) (p .result) (p .ensures) _ ((c .before .before .before .before .before) .write-rows .ensures)
+    let a = (c .before .before .before .before .before .before .before .before .before .before .before .before .before .before .before .before .before .before .before) .args in
+    let n = (c .before .before .before .before .before .before .before .before .before .before) .count-of .ensures .0 in
+    let p = (c .before .before .before .before .before .before .before) .poll-pass in
+    passed (a .q) (a .sender) (a .head) (a .known .now) _ (a .rows .now) ((c .before .before .before .before .before .before .before .before .before .before .before .before .before .before) .if1 .left) (sym ((c .before .before .before .before .before .before .before .before .before .before .before .before .before) .bad-content .ensures) ∙ (c .before .before .before .before .before .before .before .before .before .before .before .before) .if2 .left) (omega (arith, n, (c .before .before .before .before .before .before .before .before .before) .if3 .left)) (p .result) (p .ensures) _ ((c .before .before .before .before) .write-rows .ensures)
 
 pub poll-inner-spec : {M : Type 1} → statement M
 poll-inner-spec =
