@@ -102,6 +102,7 @@ unfoldable pub pollIn : State → ℕ → List ℕ → Bool → Entry → Visit 
 pollIn (tentative c) head known guarded e = stay (e .standing) []
 pollIn tracked head known guarded e = cond (degraded (e .frame)) (pollDegraded head known e) (pollFull head known guarded e)
 
+-- a poll's rules, told whether the guard of the frame's hash matches
 unfoldable pub pollGiven : ℕ → List ℕ → Bool → Entry → Visit Row
 pollGiven head known guarded e = pollIn (e .standing .state) head known guarded e
 

@@ -11,9 +11,10 @@ ghost use Rattle.frames.specs.Frames.{reparked, unhydratable};
 ghost use Rattle.frames.specs.Store.{empty, push, poll, guard, enterTentative, evictSender, checkReorg, checkFinalized};
 ghost use Rattle.frames.specs.View.{consumedOf, frameOf, contentOf, hashOf};
 ghost use Rattle.gap_quarantine.specs.Contracts.{viewOf, Performs};
+ghost use Rattle.gap_quarantine.specs.declared.Answer.the-variants.{Refused};
 use refusal::Refusal;
 
-pub mod holding; // holding.rt: push, and entering the tentative state
+pub mod holding; // holding.rt: push, also on the held frames alone, and entering the tentative state
 mod listing; // listing.rt: lists written to lent slices
 mod poll; // poll.rt: a poll and its rows
 mod reads; // reads.rt: the calls that only read
@@ -64,6 +65,16 @@ pub enum Answer {
 pub struct Answered {
     pub answer: Answer,
     pub store: Quarantine,
+}
+
+// What a refused call returns: the store as it was.
+pub(crate) fn refused(store: Quarantine, why: Refusal) -> Answered
+    ensures { λ r. ⌜ r ≡ record { answer = Refused why; store = store } ⌝ }
+{
+    Answered {
+        answer: Answer::Refused(why),
+        store: store,
+    }
 }
 
 // ---- the calls
@@ -212,10 +223,7 @@ impl Quarantine {
         let swept = passes::evict_pass(pending, slots, sender);
         let count = swept.count;
         if tickets.len() < count {
-            return Answered {
-                answer: Answer::Refused(Refusal::ShortSlice),
-                store: self,
-            };
+            return refused(self, Refusal::ShortSlice);
         }
         let frames = swept.frames;
         listing::write_tickets(frames, count, tickets);
@@ -247,10 +255,7 @@ impl Quarantine {
         let swept = passes::reorg_pass(pending, slots, block, has_hash, hash);
         let count = swept.count;
         if tickets.len() < count {
-            return Answered {
-                answer: Answer::Refused(Refusal::ShortSlice),
-                store: self,
-            };
+            return refused(self, Refusal::ShortSlice);
         }
         let frames = swept.frames;
         listing::write_tickets(frames, count, tickets);
@@ -276,10 +281,7 @@ impl Quarantine {
         let finished = passes::final_pass(pending, slots, n);
         let count = finished.count;
         if listing::lacks_room(numbers.len(), bytes.len(), count) {
-            return Answered {
-                answer: Answer::Refused(Refusal::ShortSlice),
-                store: self,
-            };
+            return refused(self, Refusal::ShortSlice);
         }
         let dead = finished.dead;
         listing::write_dead(dead, count, numbers);

@@ -12,6 +12,7 @@ ghost use Rattle.gap_quarantine.specs.Contracts.{Performs};
 use super::Answer;
 use super::Answered;
 use super::Quarantine;
+use super::refused;
 use frames::Pending;
 use frames::clamped;
 use frames::same_address;
@@ -133,28 +134,16 @@ pub(crate) fn poll_inner(
     ensures { λ r. ⌜ Performs q (poll sender head (now (known .entry)) (contentOf «has_content» (now (nonces .entry)) (now (hashes .entry)))) (now (rows .entry)) [] r (now (rows .exit)) [] ⌝ }
 {
     if 256 < known.len() {
-        let answer = Answer::Refused(Refusal::ManyKnown);
-        return Answered {
-            answer: answer,
-            store: q,
-        };
+        return refused(q, Refusal::ManyKnown);
     }
     if bad_content(has_content, nonces, hashes) {
-        let answer = Answer::Refused(Refusal::BadContent);
-        return Answered {
-            answer: answer,
-            store: q,
-        };
+        return refused(q, Refusal::BadContent);
     }
     let pending = q.pending;
     let count = count_of(pending, sender);
     let need = 19 * count;
     if rows.len() < need {
-        let answer = Answer::Refused(Refusal::ShortSlice);
-        return Answered {
-            answer: answer,
-            store: q,
-        };
+        return refused(q, Refusal::ShortSlice);
     }
     let mut guards = q.repark_guard;
     let done = poll_pass(

@@ -19,9 +19,9 @@ use slots::find_slot;
 use slots::keep_live;
 
 // An answer, and the guards after the call.
-pub struct Recorded {
-    pub answer: Answer,
-    pub guards: Guards,
+pub(crate) struct Recorded {
+    pub(crate) answer: Answer,
+    pub(crate) guards: Guards,
 }
 
 // At most sixteen predecessors, in an array.
@@ -102,7 +102,7 @@ fn put_at(gs: Guards, k: usize, hash: [u8; 32], g: RescueGuard, len: usize) -> G
 }
 
 // Records a guard of a hash.
-pub fn record(
+pub(crate) fn record(
     guards: Guards,
     kind: RescueKind,
     hash: [u8; 32],

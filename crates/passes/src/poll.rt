@@ -173,6 +173,7 @@ fn decide(e: Entry, head: u64, known: &[u64]) -> Decided
         return settle(e, Course::Silent, QuarantineDecision::StillWaiting, none);
     };
     let frame = e.frame;
+    // Rules 2 and 3 begin alike.
     if frame.claim < head {
         return settle(e, Course::Told, QuarantineDecision::NonceConsumed, none);
     }

@@ -14,7 +14,7 @@ use Rattle.lists.proofs.Elements.{each-keep, each-join, in-append, in-keep}
 use Rattle.frames.specs.Frames.{State, tracked, tentative, Frame, Entry, degraded}
 use Rattle.frames.specs.Poll.{gap}
 use Rattle.frames.specs.Store.{empty, NotBefore, Sorted, isTracked, entriesOf, wideGap, run}
-use Rattle.reading.specs.Reading.{Block, putBlock, withBlock, blocksFrom, tentativeBlocks, anyFrom, sendersFrom, senders, putNumber, putNumbers, window, poolKnownGap}
+use Rattle.reading.specs.Reading.{Block, putBlock, withBlock, blocksFrom, tentativeBlocks, isAmong, sendersFrom, senders, putNumber, putNumbers, window, poolKnownGap}
 use Rattle.store_laws.specs.Pairs.{Pairwise}
 use Rattle.store_laws.specs.Reachable.{Reachable}
 use Rattle.store_laws.specs.Listings.{hashOf, hashIn, lastHash, Below, inWindow, EveryListing}
@@ -80,12 +80,12 @@ last-hash n bs (e ∷ es) =
 
 -- ---- senders
 
-none-from : (a : Bytes) (seen : List Bytes) → anyFrom a seen ≡ false → Each (λ x. eqBytes x a ≡ false) seen
-unfolding anyFrom
+none-from : (a : Bytes) (seen : List Bytes) → isAmong a seen ≡ false → Each (λ x. eqBytes x a ≡ false) seen
+unfolding isAmong
 none-from a [] e = tt
 none-from a (x ∷ xs) e = go (eqBytes x a) refl e (none-from a xs)
   where
-    go : (b : Bool) → eqBytes x a ≡ b → (b || anyFrom a xs) ≡ false → (anyFrom a xs ≡ false → Each (λ y. eqBytes y a ≡ false) xs) → Each (λ y. eqBytes y a ≡ false) (x ∷ xs)
+    go : (b : Bool) → eqBytes x a ≡ b → (b || isAmong a xs) ≡ false → (isAmong a xs ≡ false → Each (λ y. eqBytes y a ≡ false) xs) → Each (λ y. eqBytes y a ≡ false) (x ∷ xs)
     go true p q ih = absurd (true≢false q)
     go false p q ih = (p, ih q)
 
@@ -100,7 +100,7 @@ Listed seen e = Each (λ x. leBytes x (e .frame .from) ≡ true) seen
 senders-ascending : (seen : List Bytes) (es : List Entry) → Sorted es → Pairwise Below seen → Each (Listed seen) es → Pairwise Below (sendersFrom seen es)
 unfolding sendersFrom
 senders-ascending seen [] s h l = h
-senders-ascending seen (e ∷ es) s h l = go (anyFrom (e .frame .from) seen) refl (λ seen′. senders-ascending seen′ es (s .1))
+senders-ascending seen (e ∷ es) s h l = go (isAmong (e .frame .from) seen) refl (λ seen′. senders-ascending seen′ es (s .1))
   where
     more : List Bytes
     more = seen ++ (e .frame .from ∷ [])
@@ -109,7 +109,7 @@ senders-ascending seen (e ∷ es) s h l = go (anyFrom (e .frame .from) seen) ref
     listed [] p q = tt
     listed (f ∷ fs) p q = (each-join (λ x. leBytes x (f .frame .from) ≡ true) seen (e .frame .from ∷ []) (q .0) (p .0, tt), listed fs (p .1) (q .1))
 
-    go : (b : Bool) → anyFrom (e .frame .from) seen ≡ b → ((seen′ : List Bytes) → Pairwise Below seen′ → Each (Listed seen′) es → Pairwise Below (sendersFrom seen′ es)) →
+    go : (b : Bool) → isAmong (e .frame .from) seen ≡ b → ((seen′ : List Bytes) → Pairwise Below seen′ → Each (Listed seen′) es → Pairwise Below (sendersFrom seen′ es)) →
         Pairwise Below (sendersFrom (cond b seen more) es)
     go true p ih = ih seen h (l .1)
     go false p ih =
@@ -118,25 +118,25 @@ senders-ascending seen (e ∷ es) s h l = go (anyFrom (e .frame .from) seen) ref
         (each-both (λ x. leBytes x (e .frame .from) ≡ true) (λ x. eqBytes x (e .frame .from) ≡ false) seen (l .0) (none-from (e .frame .from) seen p)))
         (listed es (s .0) (l .1))
 
-any-append : (a : Bytes) (xs ys : List Bytes) → anyFrom a (xs ++ ys) ≡ (anyFrom a xs || anyFrom a ys)
-unfolding anyFrom
+any-append : (a : Bytes) (xs ys : List Bytes) → isAmong a (xs ++ ys) ≡ (isAmong a xs || isAmong a ys)
+unfolding isAmong
 any-append a [] ys = refl
-any-append a (x ∷ xs) ys = rw (any-append a xs ys) (sym (or-assoc (eqBytes x a) (anyFrom a xs) (anyFrom a ys)))
+any-append a (x ∷ xs) ys = rw (any-append a xs ys) (sym (or-assoc (eqBytes x a) (isAmong a xs) (isAmong a ys)))
 
-every-sender : (a : Bytes) (seen : List Bytes) (es : List Entry) → anyFrom a (sendersFrom seen es) ≡ (anyFrom a seen || not (isEmpty (entriesOf a es)))
-unfolding sendersFrom entriesOf keep isEmpty anyFrom
-every-sender a seen [] = sym (or-false (anyFrom a seen))
-every-sender a seen (e ∷ es) = go (anyFrom (e .frame .from) seen) refl (eqBytes (e .frame .from) a) refl (λ seen′. every-sender a seen′ es)
+every-sender : (a : Bytes) (seen : List Bytes) (es : List Entry) → isAmong a (sendersFrom seen es) ≡ (isAmong a seen || not (isEmpty (entriesOf a es)))
+unfolding sendersFrom entriesOf keep isEmpty isAmong
+every-sender a seen [] = sym (or-false (isAmong a seen))
+every-sender a seen (e ∷ es) = go (isAmong (e .frame .from) seen) refl (eqBytes (e .frame .from) a) refl (λ seen′. every-sender a seen′ es)
   where
     rests : Bool
     rests = not (isEmpty (entriesOf a es))
 
-    go : (b : Bool) → anyFrom (e .frame .from) seen ≡ b → (c : Bool) → eqBytes (e .frame .from) a ≡ c →
-        ((seen′ : List Bytes) → anyFrom a (sendersFrom seen′ es) ≡ (anyFrom a seen′ || rests)) →
-        anyFrom a (sendersFrom (cond b seen (seen ++ (e .frame .from ∷ []))) es) ≡ (anyFrom a seen || not (isEmpty (cond c (e ∷ entriesOf a es) (entriesOf a es))))
+    go : (b : Bool) → isAmong (e .frame .from) seen ≡ b → (c : Bool) → eqBytes (e .frame .from) a ≡ c →
+        ((seen′ : List Bytes) → isAmong a (sendersFrom seen′ es) ≡ (isAmong a seen′ || rests)) →
+        isAmong a (sendersFrom (cond b seen (seen ++ (e .frame .from ∷ []))) es) ≡ (isAmong a seen || not (isEmpty (cond c (e ∷ entriesOf a es) (entriesOf a es))))
     go true p true q ih = ih seen ∙ rw (← eqBytes-true (e .frame .from) a q, p)
     go true p false q ih = ih seen
-    go false p c q ih = ih (seen ++ (e .frame .from ∷ [])) ∙ rw (any-append a seen (e .frame .from ∷ []), q) (last c (anyFrom a seen))
+    go false p c q ih = ih (seen ++ (e .frame .from ∷ [])) ∙ rw (any-append a seen (e .frame .from ∷ []), q) (last c (isAmong a seen))
       where
         last : (d o : Bool) → (o || (d || false) || rests) ≡ (o || not (isEmpty (cond d (e ∷ entriesOf a es) (entriesOf a es))))
         last true true = refl
@@ -239,7 +239,7 @@ module _ (head pendingCount n : ℕ) where
 -- ---- all of them
 
 pub every-listing : EveryListing
-unfolding tentativeBlocks senders poolKnownGap entriesOf hashOf anyFrom isIn
+unfolding tentativeBlocks senders poolKnownGap entriesOf hashOf isAmong isIn
 every-listing qs = record {
   blocks = blocks-ascending [] es tt;
   blockHashes = λ n. last-hash n [] es;

@@ -13,8 +13,13 @@ final-pass-requires c κs = search needs
 lacks-room-requires : tie.Need-lacks-room-requires
 lacks-room-requires c κs = c .final-pass .ensures 0 [] .fits
 
+refused-requires : tie.Need-refused-requires
+refused-requires c κs = search needs
+
 returns : tie.Need-returns
-returns c = short-dead ((c .before .before .before .before .before .before .before .before) .args .self) _ ((c .before .before) .final-pass .result) ((c .before .before) .final-pass .ensures ((c .before .before .before .before .before .before .before .before) .args .self .«repark_guard» .len) ((c .before .before .before .before .before .before .before .before) .args .self .«repark_guard» .guards)) ((c .before .before .before .before .before .before .before .before) .args .numbers .now) ((c .before .before .before .before .before .before .before .before) .args .bytes .now) (sym ((c .before) .lacks-room .ensures) ∙ c .if1 .taken)
+returns c =
+    rw (c .refused .ensures)
+    (short-dead ((c .before .before .before .before .before .before .before .before .before) .args .self) _ ((c .before .before .before) .final-pass .result) ((c .before .before .before) .final-pass .ensures ((c .before .before .before .before .before .before .before .before .before) .args .self .«repark_guard» .len) ((c .before .before .before .before .before .before .before .before .before) .args .self .«repark_guard» .guards)) ((c .before .before .before .before .before .before .before .before .before) .args .numbers .now) ((c .before .before .before .before .before .before .before .before .before) .args .bytes .now) (sym ((c .before .before) .lacks-room .ensures) ∙ (c .before) .if1 .taken))
 
 write-dead-requires : tie.Need-write-dead-requires
 write-dead-requires c κs =
@@ -43,6 +48,7 @@ check-finalized-spec =
     (tie.spec
     final-pass-requires
     lacks-room-requires
+    refused-requires
     returns
     write-dead-requires
     write-hashes-requires

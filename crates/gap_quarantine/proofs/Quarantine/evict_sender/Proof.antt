@@ -7,8 +7,13 @@ use Rattle.gap_quarantine.proofs.Quarantine.evict_sender.Tie as tie
 evict-pass-requires : tie.Need-evict-pass-requires
 evict-pass-requires c κs = search needs
 
+refused-requires : tie.Need-refused-requires
+refused-requires c κs = search needs
+
 returns : tie.Need-returns
-returns c = short-tickets ((c .before .before .before .before .before .before) .args .self) _ _ ((c .before) .evict-pass .result) ((c .before) .evict-pass .ensures ((c .before .before .before .before .before .before) .args .self .«repark_guard» .len) ((c .before .before .before .before .before .before) .args .self .«repark_guard» .guards)) (evict-does _) (evict-free _) ((c .before .before .before .before .before .before) .args .tickets .now) (c .if1 .taken)
+returns c =
+    rw (c .refused .ensures)
+    (short-tickets ((c .before .before .before .before .before .before .before) .args .self) _ _ ((c .before .before) .evict-pass .result) ((c .before .before) .evict-pass .ensures ((c .before .before .before .before .before .before .before) .args .self .«repark_guard» .len) ((c .before .before .before .before .before .before .before) .args .self .«repark_guard» .guards)) (evict-does _) (evict-free _) ((c .before .before .before .before .before .before .before) .args .tickets .now) ((c .before) .if1 .taken))
 
 write-tickets-requires : tie.Need-write-tickets-requires
 write-tickets-requires c κs = ((c .before .before .before) .evict-pass .ensures 0 [] .fits, (c .before .before) .if1 .left)
@@ -21,4 +26,11 @@ returns-2 c = tickets-listed ((c .before .before .before .before .before .before
 
 pub evict-sender-spec : {M : Type 1} → statement M
 evict-sender-spec =
-    tie.close (tie.spec evict-pass-requires returns write-tickets-requires same-length returns-2)
+    tie.close
+    (tie.spec
+    evict-pass-requires
+    refused-requires
+    returns
+    write-tickets-requires
+    same-length
+    returns-2)
