@@ -5,7 +5,7 @@ use mathlib.Core.List.{List, [], _∷_, _++_}
 use lib.ListN.{length, replicate}
 use Rattle.lists.specs.Bytes.{Bytes}
 use Rattle.lists.specs.Lists.{collect, written}
-use Rattle.frames.specs.Frames.{Frame, Taker, mined, taken, takenBy, Decision, rescue, nonceConsumed, stillWaiting, Row, Dead}
+use Rattle.frames.specs.Frames.{Frame, ConsumedKind, mined, taken, takenBy, Decision, rescue, nonceConsumed, stillWaiting, Row, Dead}
 use Rattle.frames.specs.Store.{Answer, total, rows, recorded, entered, frames, dead, refused}
 
 -- ---- the numbers of document 01
@@ -15,13 +15,13 @@ decisionNumber rescue = 1
 decisionNumber nonceConsumed = 2
 decisionNumber stillWaiting = 3
 
-unfoldable pub takerNumber : Taker → ℕ
-takerNumber mined = 1
-takerNumber taken = 2
-takerNumber (takenBy h) = 3
+unfoldable pub kindNumber : ConsumedKind → ℕ
+kindNumber mined = 1
+kindNumber taken = 2
+kindNumber (takenBy h) = 3
 
 -- the taker's hash, or zeros
-unfoldable pub takerHash : Taker → Bytes
+unfoldable pub takerHash : ConsumedKind → Bytes
 takerHash mined = replicate 32 0
 takerHash taken = replicate 32 0
 takerHash (takenBy h) = h
@@ -37,11 +37,11 @@ ticketNumbers f = f .ticket ∷ []
 
 -- finality lists ticket, block, kind ..
 unfoldable pub deadNumbers : Dead → List ℕ
-deadNumbers d = d .frame .ticket ∷ d .consumed .block ∷ takerNumber (d .consumed .taker) ∷ []
+deadNumbers d = d .frame .ticket ∷ d .consumed .block ∷ kindNumber (d .consumed .kind) ∷ []
 
 -- .. and 64 bytes: block hash, taker or zeros
 unfoldable pub deadBytes : Dead → Bytes
-deadBytes d = d .consumed .blockHash ++ takerHash (d .consumed .taker)
+deadBytes d = d .consumed .blockHash ++ takerHash (d .consumed .kind)
 
 -- ---- what an answer writes
 

@@ -18,15 +18,15 @@ pub record Frame : Type 0 where
   pub gas : ℕ
   pub ticket : ℕ
 
--- what consumed the nonce: the frame itself, another transaction, or another whose hash is known
-pub data Taker : Type 0 where
-  mined : Taker
-  taken : Taker
-  takenBy : Bytes → Taker
+-- document 01's kind, of what consumed the nonce: the frame itself, another transaction, or another whose hash is known
+pub data ConsumedKind : Type 0 where
+  mined : ConsumedKind
+  taken : ConsumedKind
+  takenBy : Bytes → ConsumedKind
 
 -- a consumption and the block that carries it
 pub record Consumed : Type 0 where
-  pub taker : Taker
+  pub kind : ConsumedKind
   pub block : ℕ
   pub blockHash : Bytes
 

@@ -23,9 +23,9 @@ use Rattle.frames.specs.declared.RescueKind.{RescueKind}
 use Rattle.frames.specs.declared.RescueKind.the-variants.{Reparked, Unhydratable}
 
 abbrev pub consumedOf : NonceConsumed → Bytes → Bytes → Consumed
-consumedOf (MinedAt b) hash taker = record { taker = mined; block = b; blockHash = hash }
-consumedOf (SlotTakenAt b) hash taker = record { taker = taken; block = b; blockHash = hash }
-consumedOf (SlotTakenBy b) hash taker = record { taker = takenBy taker; block = b; blockHash = hash }
+consumedOf (MinedAt b) hash taker = record { kind = mined; block = b; blockHash = hash }
+consumedOf (SlotTakenAt b) hash taker = record { kind = taken; block = b; blockHash = hash }
+consumedOf (SlotTakenBy b) hash taker = record { kind = takenBy taker; block = b; blockHash = hash }
 
 abbrev pub stateSeen : FrameState → Bytes → Bytes → State
 stateSeen Tracked hash taker = tracked

@@ -6,7 +6,7 @@ use mathlib.Core.List.{List, [], _∷_, _++_}
 use lib.ListN.{length, getD, set, length-append}
 use Rattle.lists.specs.Bytes.{Bytes}
 use Rattle.lists.proofs.Writing.{one-at, three-at, at-behind, Wrote, wrote-more}
-use Rattle.frames.specs.Answers.{ticketNumbers, deadNumbers, deadBytes, takerNumber, takerHash}
+use Rattle.frames.specs.Answers.{ticketNumbers, deadNumbers, deadBytes, kindNumber, takerHash}
 use Rattle.frames.specs.View.{consumedOf, frameOf, blockOf}
 use Rattle.passes.specs.Passes.{deadOf}
 use Rattle.frames.specs.Listing.{Puts}
@@ -24,7 +24,7 @@ module _ (frames : List ParkedFrame) (n : ℕ) (out₀ out : List ℕ) (i : ℕ)
 
 module _ (dead : List DeadFrame) (n : ℕ) (out₀ out : List ℕ) (i : ℕ) (d : DeadFrame) (h : i < n) (few : n ≤ 64) (whole : length dead ≡ 64) where
   pub dead-more : Wrote deadOf deadNumbers 3 dead n out₀ out i → 3 * n ≤ length out₀ → (block kind : ℕ) → block ≡ blockOf (getD dead i d .consumed) →
-      ((hash taker : Bytes) → kind ≡ takerNumber (consumedOf (getD dead i d .consumed) hash taker .taker)) →
+      ((hash taker : Bytes) → kind ≡ kindNumber (consumedOf (getD dead i d .consumed) hash taker .kind)) →
       Wrote deadOf deadNumbers 3 dead n out₀ (set (set (set out (3 * i) (getD dead i d .frame .ticket)) (3 * i + 1) block) (3 * i + 2) kind) (i + 1)
   unfolding deadNumbers
   dead-more w room block kind p q =
@@ -34,7 +34,7 @@ module _ (dead : List DeadFrame) (n : ℕ) (out₀ out : List ℕ) (i : ℕ) (d 
       ∙ rw (block-seen (x .consumed) (x .«block_hash») (x .taker), ← p, ← q (x .«block_hash») (x .taker)))
 
   pub hashes-more : Wrote deadOf deadBytes 64 dead n out₀ out i → 64 * n ≤ length out₀ → (shown out′ out″ : Bytes) →
-      ((hash : Bytes) → shown ≡ takerHash (consumedOf (getD dead i d .consumed) hash (getD dead i d .taker) .taker)) →
+      ((hash : Bytes) → shown ≡ takerHash (consumedOf (getD dead i d .consumed) hash (getD dead i d .taker) .kind)) →
       Puts (64 * i) (getD dead i d .«block_hash») out 32 out′ → Puts (64 * i + 32) shown out′ 32 out″ →
       Wrote deadOf deadBytes 64 dead n out₀ out″ (i + 1)
   unfolding deadBytes

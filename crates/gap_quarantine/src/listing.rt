@@ -7,7 +7,7 @@ ghost use Prim.Native.Nat.{_*_, _≤_};
 ghost use lib.ListN.{length, take};
 ghost use Rattle.lists.specs.Bytes.{Bytes};
 ghost use Rattle.lists.specs.Lists.{collect, written};
-ghost use Rattle.frames.specs.Answers.{ticketNumbers, deadNumbers, deadBytes, takerNumber, takerHash};
+ghost use Rattle.frames.specs.Answers.{ticketNumbers, deadNumbers, deadBytes, kindNumber, takerHash};
 ghost use Rattle.frames.specs.View.{consumedOf, frameOf};
 ghost use Rattle.passes.specs.Passes.{deadOf};
 use frames::NonceConsumed;
@@ -31,7 +31,7 @@ pub(crate) fn write_tickets(frames: [ParkedFrame; 64], n: usize, out: &mut [u64]
 
 // Document 01's number of a consumption's kind.
 fn kind_of(c: NonceConsumed) -> u64
-    ensures { λ r. ⌜ ((hash taker : Bytes) → r ≡ takerNumber (consumedOf c hash taker .taker)) ⌝ }
+    ensures { λ r. ⌜ ((hash taker : Bytes) → r ≡ kindNumber (consumedOf c hash taker .kind)) ⌝ }
 {
     match c {
         NonceConsumed::MinedAt(_) => 1,
@@ -42,7 +42,7 @@ fn kind_of(c: NonceConsumed) -> u64
 
 // The taker's hash, or zeros where it is not known.
 fn taker_of(c: NonceConsumed, taker: [u8; 32]) -> [u8; 32]
-    ensures { λ r. ⌜ ((hash : Bytes) → r ≡ takerHash (consumedOf c hash taker .taker)) ⌝ }
+    ensures { λ r. ⌜ ((hash : Bytes) → r ≡ takerHash (consumedOf c hash taker .kind)) ⌝ }
 {
     match c {
         NonceConsumed::MinedAt(_) => [0u8; 32],

@@ -49,7 +49,7 @@ parks hash from = ask (push (frame hash from))
 
 -- mined in block 100
 unfoldable pub enters100 : Bytes → Request
-enters100 hash = ask (enterTentative hash (record { taker = mined; block = 100; blockHash = replicate 32 5 }))
+enters100 hash = ask (enterTentative hash (record { kind = mined; block = 100; blockHash = replicate 32 5 }))
 
 unfoldable pub finalized100 : Request
 finalized100 = ask (checkFinalized 100)

@@ -97,12 +97,11 @@ pub fn evict_pass(pending: Pending, slots: Slots, sender: [u8; 20]) -> Swept
             w += 1;
         }
     }
-    let after = Pending {
-        entries: entries,
-        len: w,
-    };
     Swept {
-        pending: after,
+        pending: Pending {
+            entries: entries,
+            len: w,
+        },
         slots: live,
         frames: frames,
         count: count,
@@ -180,12 +179,11 @@ pub fn reorg_pass(
             w += 1;
         }
     }
-    let after = Pending {
-        entries: entries,
-        len: w,
-    };
     Swept {
-        pending: after,
+        pending: Pending {
+            entries: entries,
+            len: w,
+        },
         slots: live,
         frames: frames,
         count: count,
@@ -226,12 +224,11 @@ pub fn final_pass(pending: Pending, slots: Slots, n: u64) -> Finished
             count += 1;
         }
     }
-    let after = Pending {
-        entries: entries,
-        len: w,
-    };
     Finished {
-        pending: after,
+        pending: Pending {
+            entries: entries,
+            len: w,
+        },
         slots: live,
         dead: dead,
         count: count,

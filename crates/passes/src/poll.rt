@@ -323,12 +323,11 @@ pub fn poll_pass(
             }
         }
     }
-    let after = Pending {
-        entries: entries,
-        len: w,
-    };
     Polled {
-        pending: after,
+        pending: Pending {
+            entries: entries,
+            len: w,
+        },
         slots: slots,
         rows: rows,
         count: count,

@@ -47,7 +47,7 @@ guarded = poll sender 5 (5 ∷ 6 ∷ 7 ∷ []) (some (record { nonces = 5 ∷ 6 
 
 -- the first frame is mined in block 100
 abbrev pub mining : Call
-mining = enterTentative (hashAt 0) (record { taker = mined; block = 100; blockHash = replicate 32 3 })
+mining = enterTentative (hashAt 0) (record { kind = mined; block = 100; blockHash = replicate 32 3 })
 
 -- ---- stores
 

@@ -66,7 +66,7 @@ unfoldable pub repark : List ℕ → Call
 repark predecessors = guard (record { hash = frameHash; kind = reparked 5; predecessors = predecessors; contents = h })
 
 unfoldable pub minedAt100 : Consumed
-minedAt100 = record { taker = mined; block = 100; blockHash = h }
+minedAt100 = record { kind = mined; block = 100; blockHash = h }
 
 unfoldable pub enterAt100 : Call
 enterAt100 = enterTentative frameHash minedAt100

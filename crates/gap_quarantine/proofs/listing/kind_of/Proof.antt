@@ -1,4 +1,4 @@
-use Rattle.frames.specs.Answers.{takerNumber}
+use Rattle.frames.specs.Answers.{kindNumber}
 use borrow.Author.Needs.{needs}
 use Rattle.gap_quarantine.proofs.listing.kind_of.Statement.{statement}
 use Rattle.gap_quarantine.proofs.listing.kind_of.Tie as tie
@@ -13,15 +13,15 @@ enum-told-3 : tie.Need-enum-told-3
 enum-told-3 c = search needs
 
 returns : tie.Need-returns
-unfolding takerNumber
+unfolding kindNumber
 returns c = λ hash taker. rw (c .enum-told .given .1)
 
 returns-2 : tie.Need-returns-2
-unfolding takerNumber
+unfolding kindNumber
 returns-2 c = λ hash taker. rw (c .enum-told2 .given .1)
 
 returns-3 : tie.Need-returns-3
-unfolding takerNumber
+unfolding kindNumber
 returns-3 c = λ hash taker. rw (c .enum-told3 .given .1)
 
 pub kind-of-spec : {M : Type 1} → statement M
