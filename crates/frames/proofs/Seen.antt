@@ -3,10 +3,10 @@ use mathlib.Core.Path.{_≡_, refl, sym, ap, _∙_}
 use native.Mathlib.Omega.{arith}
 use mathlib.Core.List.{List, append-assoc, map}
 use Prim.Native.Nat.{ℕ, _≤_}
-use lib.ListN.{length, take, drop, length-take, length-map}
+use lib.ListN.{length, take, length-take, length-map}
 use lib.Seq.{paste, take-length, drop-drop}
 use Rattle.lists.specs.Bytes.{Bytes}
-use Rattle.lists.specs.Lists.{written, writtenAt}
+use Rattle.lists.specs.Lists.{writtenAt}
 use Rattle.frames.specs.View.{consumedOf, blockOf}
 use Rattle.frames.specs.declared.NonceConsumed.{NonceConsumed}
 use Rattle.frames.specs.declared.NonceConsumed.the-variants.{MinedAt, SlotTakenAt, SlotTakenBy}

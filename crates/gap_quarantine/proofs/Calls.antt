@@ -1,19 +1,19 @@
 -- What eviction, reorganisation and finality make of the store, from their passes.
 use Prim.Native.Nat.{ℕ, _*_, _≤_, _<_}
 use native.Mathlib.Omega.{arith}
-use mathlib.Core.Path.{_≡_, refl, sym, ap, _∙_}
+use mathlib.Core.Path.{_≡_, refl, _∙_}
 use mathlib.Core.Bool.{Bool, true, false, _||_, true≢false}
 use mathlib.Core.Option.{Option}
 use mathlib.Core.List.{List, [], map}
 use lib.Dec.{ltb}
-use lib.ListN.{length, take, length-take, length-map}
+use lib.ListN.{length, take}
 use borrow.Author.Tests.{lt-ltb, le-ltb, ltb-false}
 use Rattle.lists.specs.Bytes.{Bytes}
 use Rattle.lists.specs.Lists.{collect, written}
 use Rattle.refusal.specs.declared.Refusal.the-variants.{ShortSlice}
 use Rattle.frames.specs.Frames.{Frame, Entry, Guard, Visit}
 use Rattle.frames.specs.Rules.{onlyOf, evictRule, reorgRule, finalRule}
-use Rattle.frames.specs.Store.{Store, Call, evictSender, checkReorg, checkFinalized, Walked, walk, walked, frames, dead, effect, inputRefusal, roomRefusal, refusal, orElse, when, unless, listed, step}
+use Rattle.frames.specs.Store.{Store, Call, evictSender, checkReorg, checkFinalized, walk, walked, frames, dead, effect, inputRefusal, roomRefusal, refusal, orElse, when, unless, listed, step}
 use Rattle.frames.specs.Answers.{ticketNumbers, deadNumbers, deadBytes, said, numbersOf, bytesOf}
 use Rattle.frames.specs.View.{frameOf, entriesSeen, guardsSeen}
 use Rattle.gap_quarantine.specs.Contracts.{viewOf, Performs}

@@ -12,7 +12,7 @@ use Rattle.lists.proofs.Compacting.{clamp}
 use Rattle.frames.specs.Frames.{Consumed, Entry}
 use Rattle.frames.specs.Store.{isTracked, enters, enterWith, enterFirst, anyEnters, dropGuard, enterTentative, effect, inputRefusal, roomRefusal, refusal, orElse, unless, step}
 use Rattle.frames.specs.Answers.{said, numbersOf, bytesOf}
-use Rattle.frames.specs.View.{entryOf, entriesSeen, liveOf, guardsSeen}
+use Rattle.frames.specs.View.{entryOf, liveOf, guardsSeen}
 use Rattle.gap_quarantine.specs.Contracts.{Performs}
 use Rattle.slots.specs.LiveGuards.{dropped}
 use Rattle.gap_quarantine.specs.Holding.{entersSeen}

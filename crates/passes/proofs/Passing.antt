@@ -10,7 +10,7 @@ use Rattle.lists.proofs.Compacting.{front-more, rest-on, rest-kept, rest-none}
 use Rattle.frames.specs.Frames.{Standing, Entry, Guard, Visit}
 use Rattle.frames.specs.Poll.{stay, leave}
 use Rattle.frames.specs.Store.{guardOf, dropGuard, after, Walked, walk}
-use Rattle.frames.specs.View.{frameOf, stateSeen, heldOf, entryOf}
+use Rattle.frames.specs.View.{stateSeen, heldOf, entryOf}
 use Rattle.passes.specs.Passes.{Passes}
 use Rattle.frames.specs.declared.Entry as coded
 

@@ -1,6 +1,5 @@
 -- A pass that carries the slots of the guards: its turns, by what becomes of an entry.
 use Prim.Native.Nat.{ℕ, _+_, _≤_, _<_, min}
-use native.Mathlib.Omega.{arith}
 use mathlib.Core.Path.{_≡_}
 use mathlib.Core.Bool.{true}
 use mathlib.Core.Option.{Option, some}

@@ -5,12 +5,12 @@ use native.Mathlib.Omega.{arith}
 use mathlib.Core.Path.{_≡_, refl, sym, ap, _∙_}
 use mathlib.Core.Bool.{Bool, true, false, _&&_, not, cond}
 use mathlib.Core.Option.{none, some}
-use mathlib.Core.List.{List, [], _∷_, _++_, append-assoc, append-nil, map, map-append}
+use mathlib.Core.List.{List, [], _∷_, _++_, append-assoc, append-nil, map}
 use lib.ListN.{length, take, drop, getD, set, length-set, length-take, length-append, drop-of-length-le}
 use lib.Seq.{take-suc, take-suc-set, take-set-lt, drop-cons, drop-set-lt, getD-take, take-all}
 use Rattle.lists.specs.Bytes.{Bytes, eqBytes}
 use Rattle.lists.specs.Lists.{keep}
-use Rattle.lists.proofs.Compacting.{clamp, front-more}
+use Rattle.lists.proofs.Compacting.{clamp}
 use Rattle.frames.specs.Frames.{Guard}
 use Rattle.frames.specs.Store.{guardOf, dropGuard}
 use Rattle.frames.specs.View.{guardSeen, liveOf}

@@ -1,5 +1,5 @@
 -- The examples are computed.
-use mathlib.Core.Path.{_≡_, refl}
+use mathlib.Core.Path.{refl}
 use Rattle.lists.specs.Bytes as lists-Bytes
 use Rattle.lists.specs.Lists as lists-Lists
 use Rattle.wire.specs.Numbers as wire-Numbers

@@ -1,16 +1,15 @@
 -- What the examples speak of: the frame F, calls with slices long enough, and small journals.
 use Prim.Native.Nat.{ℕ}
-use mathlib.Core.Bool.{true, false}
+use mathlib.Core.Bool.{true}
 use mathlib.Core.List.{List, [], _∷_, _++_, map}
 use mathlib.Core.Option.{Option, none, some}
 use lib.ListN.{length, replicate}
 use Rattle.lists.specs.Bytes.{Bytes}
 use Rattle.wire.specs.Numbers.{digits}
-use Rattle.frames.specs.Frames.{Frame, Consumed, mined, reparked, Decision, Row, Entry}
-use Rattle.frames.specs.Store.{Store, empty, Call, Request, push, poll, guard, enterTentative, Answer, step, run}
-use Rattle.journal_record.specs.Records.{Fidelity, full, degraded, Park, resolveMark, legacyMark}
-use Rattle.journal_record.specs.Writing.{parkBytes}
-use Rattle.gap_quarantine_journal.specs.Fold.{Folded, Counts, Outcome, folded, refused, foldJournal}
+use Rattle.frames.specs.Frames.{Frame, Consumed, mined, reparked, Decision, Row}
+use Rattle.frames.specs.Store.{Store, empty, Call, Request, poll, guard, enterTentative, Answer, step, run}
+use Rattle.journal_record.specs.Records.{Fidelity, degraded, Park, resolveMark, legacyMark}
+use Rattle.gap_quarantine_journal.specs.Fold.{Counts, Outcome, folded, refused, foldJournal}
 
 -- ---- the store
 

@@ -1,7 +1,6 @@
 -- The readings that document 01 calls tempting and wrong: for each, an input on which it would answer something else.
-use Prim.Native.Nat.{ℕ}
 use mathlib.Core.Path.{_≡_}
-use mathlib.Core.List.{List, [], _∷_, _++_, map}
+use mathlib.Core.List.{[], _∷_, _++_, map}
 use mathlib.Core.Option.{none, some}
 use lib.ListN.{replicate}
 use Rattle.wire.specs.HashText.{canonical}
@@ -9,7 +8,7 @@ use Rattle.frames.specs.Frames.{rescue}
 use Rattle.frames.specs.Store.{push, rows}
 use Rattle.journal_record.specs.Records.{full, degraded}
 use Rattle.journal_record.specs.Writing.{parkBytes}
-use Rattle.gap_quarantine_journal.specs.Restore.{Restored, restored, restore}
+use Rattle.gap_quarantine_journal.specs.Restore.{restored, restore}
 use Rattle.worked_examples.specs.Setting.{h, frameHash, frameF, answer, row, polled, polledWith, repark, fold, pendingIn, countsIn, capitalText, capitalHash, parkWith, resolveBytes}
 
 pub record Tempting : Type 0 where

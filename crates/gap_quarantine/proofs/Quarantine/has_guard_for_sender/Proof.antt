@@ -1,6 +1,5 @@
 use mathlib.Core.Path.{ap, _∙_}
 use mathlib.Core.Bool.{not}
-use native.Mathlib.Omega.{arith}
 use Rattle.lists.specs.Lists.{isEmpty}
 use Rattle.lists.proofs.Compacting.{long}
 use Rattle.reading.specs.Reading.{hasGuardForSender}

@@ -1,4 +1,3 @@
-use native.Mathlib.Omega.{arith}
 use Rattle.lists.proofs.Compacting.{long}
 use Rattle.passes.proofs.Sweeping.{noEntry}
 use Rattle.gap_quarantine.proofs.Entering.{absent, present}

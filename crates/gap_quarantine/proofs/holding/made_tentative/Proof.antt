@@ -1,6 +1,5 @@
 use mathlib.Core.Path.{refl}
 use Rattle.frames.specs.Store.{enterWith}
-use borrow.Author.Needs.{needs}
 use Rattle.gap_quarantine.proofs.holding.made_tentative.Statement.{statement}
 use Rattle.gap_quarantine.proofs.holding.made_tentative.Tie as tie
 

@@ -2,7 +2,7 @@ use Prim.Native.Nat.{_+_, _≤_, _-_}
 use native.Mathlib.Nat.{zero-add}
 use native.Mathlib.Omega.{arith}
 use mathlib.Core.Path.{_≡_, sym, _∙_}
-use lib.ListN.{length, take, drop}
+use lib.ListN.{take, drop}
 use Rattle.lists.specs.Search.{firstAt}
 use Rattle.lists.proofs.Searching.{find-hit, find-miss, find-none}
 use Rattle.gap_quarantine.specs.Holding.{isAfter}

@@ -1,6 +1,5 @@
 use mathlib.Core.Path.{refl}
 use Rattle.frames.specs.Store.{fresh}
-use borrow.Author.Needs.{needs}
 use Rattle.gap_quarantine.proofs.holding.tracked.Statement.{statement}
 use Rattle.gap_quarantine.proofs.holding.tracked.Tie as tie
 

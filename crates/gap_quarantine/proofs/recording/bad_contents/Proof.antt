@@ -1,7 +1,5 @@
-use mathlib.Core.Path.{_≡_}
 use borrow.Author.Tests.{eq-eqb, ne-eqb}
 use Rattle.frames.specs.Store.{badContents}
-use borrow.Author.Needs.{needs}
 use Rattle.gap_quarantine.proofs.recording.bad_contents.Statement.{statement}
 use Rattle.gap_quarantine.proofs.recording.bad_contents.Tie as tie
 
