@@ -3,9 +3,10 @@ ghost use mathlib.Core.Path.{_≡_};
 ghost use mathlib.Core.List.{[]};
 ghost use Prim.Native.Nat.{_+_, _-_, _≤_, min};
 ghost use lib.ListN.{length, replicate};
-ghost use Rattle.lists.specs.Bytes.{eqBytes};
+ghost use Rattle.lists.specs.Bytes.{Bytes, eqBytes};
 ghost use Rattle.frames.specs.Frames.{degraded};
-ghost use Rattle.frames.specs.View.{blockOf, frameOf, entriesSeen, guardsSeen};
+ghost use Rattle.frames.specs.Answers.{takerHash};
+ghost use Rattle.frames.specs.View.{consumedOf, blockOf, frameOf, entriesSeen, guardsSeen};
 ghost use Rattle.frames.specs.Listing.{Puts};
 
 mod matching; // matching.rt: whether a guard matches a frame
@@ -187,6 +188,17 @@ pub fn block_of(c: NonceConsumed) -> u64
         NonceConsumed::MinedAt(b) => b,
         NonceConsumed::SlotTakenAt(b) => b,
         NonceConsumed::SlotTakenBy(b) => b,
+    }
+}
+
+// The taker's hash, or zeros where it is not known.
+pub fn taker_of(c: NonceConsumed, taker: [u8; 32]) -> [u8; 32]
+    ensures { λ r. ⌜ ((hash : Bytes) → r ≡ takerHash (consumedOf c hash taker .kind)) ⌝ }
+{
+    match c {
+        NonceConsumed::MinedAt(_) => [0u8; 32],
+        NonceConsumed::SlotTakenAt(_) => [0u8; 32],
+        NonceConsumed::SlotTakenBy(_) => taker,
     }
 }
 

@@ -7,13 +7,14 @@ ghost use Prim.Native.Nat.{_*_, _≤_};
 ghost use lib.ListN.{length, take};
 ghost use Rattle.lists.specs.Bytes.{Bytes};
 ghost use Rattle.lists.specs.Lists.{collect, written};
-ghost use Rattle.frames.specs.Answers.{ticketNumbers, deadNumbers, deadBytes, kindNumber, takerHash};
+ghost use Rattle.frames.specs.Answers.{ticketNumbers, deadNumbers, deadBytes, kindNumber};
 ghost use Rattle.frames.specs.View.{consumedOf, frameOf};
 ghost use Rattle.passes.specs.Passes.{deadOf};
 use frames::NonceConsumed;
 use frames::ParkedFrame;
 use frames::block_of;
 use frames::put_hash;
+use frames::taker_of;
 use passes::DeadFrame;
 
 // The tickets of n frames.
@@ -37,17 +38,6 @@ fn kind_of(c: NonceConsumed) -> u64
         NonceConsumed::MinedAt(_) => 1,
         NonceConsumed::SlotTakenAt(_) => 2,
         NonceConsumed::SlotTakenBy(_) => 3,
-    }
-}
-
-// The taker's hash, or zeros where it is not known.
-fn taker_of(c: NonceConsumed, taker: [u8; 32]) -> [u8; 32]
-    ensures { λ r. ⌜ ((hash : Bytes) → r ≡ takerHash (consumedOf c hash taker .kind)) ⌝ }
-{
-    match c {
-        NonceConsumed::MinedAt(_) => [0u8; 32],
-        NonceConsumed::SlotTakenAt(_) => [0u8; 32],
-        NonceConsumed::SlotTakenBy(_) => taker,
     }
 }
 

@@ -2,7 +2,7 @@
 ghost use mathlib.Core.Path.{_≡_};
 ghost use Rattle.lists.specs.Lists.{isEmpty};
 ghost use Rattle.reading.specs.Reading.{stateOf, expectedBoundary, len, tentativeCount, hasGuardForSender};
-ghost use Rattle.reading.specs.Contracts.{States, boundarySeen, BlocksRead, SendersRead, GapRead};
+ghost use Rattle.reading.specs.Contracts.{stateShown, boundarySeen, BlocksRead, SendersRead, GapRead};
 ghost use Rattle.gap_quarantine.specs.Contracts.{viewOf};
 use super::Quarantine;
 use frames::clamped;
@@ -14,7 +14,7 @@ use reading::any_guarded;
 impl Quarantine {
     // The state of the first frame of a hash.
     pub fn state(self, hash: [u8; 32]) -> HeldState
-        ensures { λ r. ⌜ States (stateOf hash (viewOf self)) r ⌝ }
+        ensures { λ r. ⌜ r ≡ stateShown (stateOf hash (viewOf self)) ⌝ }
     {
         let pending = self.pending;
         reading::state(pending, hash)

@@ -35,6 +35,7 @@ fn print_pending(out: &[u8], count: u64) {
     let mut at = 0;
     let mut i = 0;
     while i < count {
+        // A fold that answers 0 has written them all, so this does not come.
         if out.len() - at < 240 {
             return;
         }
@@ -65,6 +66,7 @@ fn run(head: Head, bytes: &[u8]) {
     }
     let mut out = [0u8; 15360];
     let room = head.room;
+    // No head that was read has a larger room.
     if room <= 15360 {
         run_journal(bytes, &mut out[0..room]);
     }

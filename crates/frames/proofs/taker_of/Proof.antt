@@ -1,7 +1,7 @@
 use Rattle.frames.specs.Answers.{takerHash}
 use borrow.Author.Needs.{needs}
-use Rattle.gap_quarantine.proofs.listing.taker_of.Statement.{statement}
-use Rattle.gap_quarantine.proofs.listing.taker_of.Tie as tie
+use Rattle.frames.proofs.taker_of.Statement.{statement}
+use Rattle.frames.proofs.taker_of.Tie as tie
 
 enum-told : tie.Need-enum-told
 enum-told c = search needs
