@@ -7,10 +7,10 @@ use Rattle.wire.specs.HashText as wire-HashText
 use Rattle.layout.specs.Layout as layout-Layout
 use Rattle.journal_record.specs.Reading as journal-record-Reading
 use Rattle.journal_record.specs.Writing as journal-record-Writing
-use Rattle.frames.specs.Frames as gap-quarantine-Frames
-use Rattle.frames.specs.Poll as gap-quarantine-Poll
-use Rattle.frames.specs.Rules as gap-quarantine-Rules
-use Rattle.frames.specs.Store as gap-quarantine-Store
+use Rattle.frames.specs.Frames as frames-Frames
+use Rattle.frames.specs.Poll as frames-Poll
+use Rattle.frames.specs.Rules as frames-Rules
+use Rattle.frames.specs.Store as frames-Store
 use Rattle.gap_quarantine_journal.specs.Pending as gap-quarantine-journal-Pending
 use Rattle.gap_quarantine_journal.specs.Fold as gap-quarantine-journal-Fold
 use Rattle.gap_quarantine_journal.specs.Restore as gap-quarantine-journal-Restore
@@ -19,7 +19,7 @@ use Rattle.worked_examples.specs.Starred.{Starred}
 use Rattle.worked_examples.specs.Tempting.{Tempting}
 
 pub starred : Starred
-unfolding lists-Bytes.eqBytes lists-Bytes.leBytes lists-Lists.keep lists-Lists.isEmpty lists-Lists.collect lists-Lists.isIn wire-Numbers.num wire-Numbers.digits wire-HashText.hexValue wire-HashText.hexDigit wire-HashText.hexText wire-HashText.canonical wire-HashText.unprefixed wire-HashText.allHex wire-HashText.fromHex wire-HashText.parses wire-HashText.parseHash layout-Layout.within layout-Layout.soundTagged layout-Layout.soundText layout-Layout.soundTentative layout-Layout.sound layout-Layout.size layout-Layout.fits layout-Layout.offset layout-Layout.width layout-Layout.slot layout-Layout.cut layout-Layout.join journal-record-Reading.lead journal-record-Reading.isSet journal-record-Reading.tagValue journal-record-Reading.tagNumber journal-record-Reading.textValue journal-record-Reading.fidelityValue journal-record-Reading.consumedValue journal-record-Reading.tentativeValue journal-record-Reading.resolutionValue journal-record-Reading.parkOf journal-record-Reading.tentativeEntryOf journal-record-Reading.resolveOf journal-record-Reading.legacyOf journal-record-Reading.otherOf journal-record-Reading.formOf journal-record-Reading.layoutOf journal-record-Reading.sizeOf journal-record-Reading.versionOf journal-record-Reading.accepted journal-record-Writing.flagByte journal-record-Writing.tagBytes journal-record-Writing.textBytes journal-record-Writing.fidelityByte journal-record-Writing.kindByte journal-record-Writing.tentativeBytes journal-record-Writing.parkFields journal-record-Writing.parkBytes gap-quarantine-Frames.degraded gap-quarantine-Poll.numbersFrom gap-quarantine-Poll.gap gap-quarantine-Poll.predecessors gap-quarantine-Poll.unknown gap-quarantine-Poll.firstIs gap-quarantine-Poll.contentsHold gap-quarantine-Poll.contentMatches gap-quarantine-Poll.boundaryHolds gap-quarantine-Poll.guardMatches gap-quarantine-Poll.stay gap-quarantine-Poll.leave gap-quarantine-Poll.row gap-quarantine-Poll.heldAt gap-quarantine-Poll.pollDegraded gap-quarantine-Poll.pollFull gap-quarantine-Poll.pollIn gap-quarantine-Poll.pollGiven gap-quarantine-Poll.pollRule gap-quarantine-Rules.onlyOf gap-quarantine-Rules.evictRule gap-quarantine-Rules.differs gap-quarantine-Rules.reorgIn gap-quarantine-Rules.reorgRule gap-quarantine-Rules.finalIn gap-quarantine-Rules.finalRule gap-quarantine-Store.empty gap-quarantine-Store.guardOf gap-quarantine-Store.dropGuard gap-quarantine-Store.putGuard gap-quarantine-Store.after gap-quarantine-Store.walk gap-quarantine-Store.walked gap-quarantine-Store.fresh gap-quarantine-Store.insert gap-quarantine-Store.isTracked gap-quarantine-Store.enters gap-quarantine-Store.enterWith gap-quarantine-Store.enterFirst gap-quarantine-Store.anyEnters gap-quarantine-Store.effect gap-quarantine-Store.when gap-quarantine-Store.orElse gap-quarantine-Store.wideGap gap-quarantine-Store.badContent gap-quarantine-Store.badContents gap-quarantine-Store.noRoomFor gap-quarantine-Store.inputRefusal gap-quarantine-Store.entriesOf gap-quarantine-Store.listed gap-quarantine-Store.roomRefusal gap-quarantine-Store.refusal gap-quarantine-Store.unless gap-quarantine-Store.step gap-quarantine-Store.run gap-quarantine-Store.calls gap-quarantine-journal-Pending.putPark gap-quarantine-journal-Pending.removePark gap-quarantine-journal-Pending.withTentative gap-quarantine-journal-Pending.enterPark gap-quarantine-journal-Pending.allZero gap-quarantine-journal-Pending.isNonZero gap-quarantine-journal-Pending.isFull gap-quarantine-journal-Pending.fullOr gap-quarantine-journal-Pending.settledFidelity gap-quarantine-journal-Pending.settled gap-quarantine-journal-Pending.orElse gap-quarantine-journal-Pending.orDefault gap-quarantine-journal-Pending.legacyHash gap-quarantine-journal-Pending.legacyClaimed gap-quarantine-journal-Pending.legacyFull gap-quarantine-journal-Pending.migrated gap-quarantine-journal-Fold.plus gap-quarantine-journal-Fold.begin gap-quarantine-journal-Fold.keep64 gap-quarantine-journal-Fold.applyPark gap-quarantine-journal-Fold.applyTentative gap-quarantine-journal-Fold.applyResolve gap-quarantine-journal-Fold.applyLegacyAs gap-quarantine-journal-Fold.applyLegacy gap-quarantine-journal-Fold.applyOther gap-quarantine-journal-Fold.apply gap-quarantine-journal-Fold.stepWhole gap-quarantine-journal-Fold.stepForm gap-quarantine-journal-Fold.stepOf gap-quarantine-journal-Fold.after gap-quarantine-journal-Fold.foldFrom gap-quarantine-journal-Fold.roomFor gap-quarantine-journal-Fold.foldJournal gap-quarantine-journal-Fold.output gap-quarantine-journal-Restore.frameOf gap-quarantine-journal-Restore.restoreDegraded gap-quarantine-journal-Restore.restoreFull gap-quarantine-journal-Restore.restoreAs gap-quarantine-journal-Restore.restoreHash gap-quarantine-journal-Restore.restorePark gap-quarantine-journal-Restore.isPark gap-quarantine-journal-Restore.restore address frameHash h frame frameF degradedF ask after answer held row polled polledWith repark minedAt100 enterAt100 fold pendingIn countsIn capitalText capitalHash parkWith resolveBytes legacyBytes
+unfolding lists-Bytes.eqBytes lists-Bytes.leBytes lists-Lists.keep lists-Lists.isEmpty lists-Lists.collect lists-Lists.isIn wire-Numbers.num wire-Numbers.digits wire-HashText.hexValue wire-HashText.hexDigit wire-HashText.hexText wire-HashText.canonical wire-HashText.unprefixed wire-HashText.allHex wire-HashText.fromHex wire-HashText.parses wire-HashText.parseHash layout-Layout.within layout-Layout.soundTagged layout-Layout.soundText layout-Layout.soundTentative layout-Layout.sound layout-Layout.size layout-Layout.fits layout-Layout.offset layout-Layout.width layout-Layout.slot layout-Layout.cut layout-Layout.join journal-record-Reading.lead journal-record-Reading.isSet journal-record-Reading.tagValue journal-record-Reading.tagNumber journal-record-Reading.textValue journal-record-Reading.fidelityValue journal-record-Reading.consumedValue journal-record-Reading.tentativeValue journal-record-Reading.resolutionValue journal-record-Reading.parkOf journal-record-Reading.tentativeEntryOf journal-record-Reading.resolveOf journal-record-Reading.legacyOf journal-record-Reading.otherOf journal-record-Reading.formOf journal-record-Reading.layoutOf journal-record-Reading.sizeOf journal-record-Reading.versionOf journal-record-Reading.accepted journal-record-Writing.flagByte journal-record-Writing.tagBytes journal-record-Writing.textBytes journal-record-Writing.fidelityByte journal-record-Writing.kindByte journal-record-Writing.tentativeBytes journal-record-Writing.parkFields journal-record-Writing.parkBytes frames-Frames.degraded frames-Poll.numbersFrom frames-Poll.gap frames-Poll.predecessors frames-Poll.unknown frames-Poll.firstIs frames-Poll.contentsHold frames-Poll.contentMatches frames-Poll.boundaryHolds frames-Poll.guardMatches frames-Poll.stay frames-Poll.leave frames-Poll.row frames-Poll.heldAt frames-Poll.pollDegraded frames-Poll.pollFull frames-Poll.pollIn frames-Poll.pollGiven frames-Poll.pollRule frames-Rules.onlyOf frames-Rules.evictRule frames-Rules.differs frames-Rules.reorgIn frames-Rules.reorgRule frames-Rules.finalIn frames-Rules.finalRule frames-Store.empty frames-Store.guardOf frames-Store.dropGuard frames-Store.putGuard frames-Store.after frames-Store.walk frames-Store.walked frames-Store.fresh frames-Store.insert frames-Store.isTracked frames-Store.enters frames-Store.enterWith frames-Store.enterFirst frames-Store.anyEnters frames-Store.effect frames-Store.when frames-Store.orElse frames-Store.wideGap frames-Store.badContent frames-Store.badContents frames-Store.noRoomFor frames-Store.inputRefusal frames-Store.entriesOf frames-Store.listed frames-Store.roomRefusal frames-Store.refusal frames-Store.unless frames-Store.step frames-Store.run frames-Store.calls gap-quarantine-journal-Pending.putPark gap-quarantine-journal-Pending.removePark gap-quarantine-journal-Pending.withTentative gap-quarantine-journal-Pending.enterPark gap-quarantine-journal-Pending.allZero gap-quarantine-journal-Pending.isNonZero gap-quarantine-journal-Pending.isFull gap-quarantine-journal-Pending.fullOr gap-quarantine-journal-Pending.settledFidelity gap-quarantine-journal-Pending.settled gap-quarantine-journal-Pending.orElse gap-quarantine-journal-Pending.orDefault gap-quarantine-journal-Pending.legacyHash gap-quarantine-journal-Pending.legacyClaimed gap-quarantine-journal-Pending.legacyFull gap-quarantine-journal-Pending.migrated gap-quarantine-journal-Fold.plus gap-quarantine-journal-Fold.begin gap-quarantine-journal-Fold.keep64 gap-quarantine-journal-Fold.applyPark gap-quarantine-journal-Fold.applyTentative gap-quarantine-journal-Fold.applyResolve gap-quarantine-journal-Fold.applyLegacyAs gap-quarantine-journal-Fold.applyLegacy gap-quarantine-journal-Fold.applyOther gap-quarantine-journal-Fold.apply gap-quarantine-journal-Fold.stepWhole gap-quarantine-journal-Fold.stepForm gap-quarantine-journal-Fold.stepOf gap-quarantine-journal-Fold.after gap-quarantine-journal-Fold.foldFrom gap-quarantine-journal-Fold.roomFor gap-quarantine-journal-Fold.foldJournal gap-quarantine-journal-Fold.output gap-quarantine-journal-Restore.frameOf gap-quarantine-journal-Restore.restoreDegraded gap-quarantine-journal-Restore.restoreFull gap-quarantine-journal-Restore.restoreAs gap-quarantine-journal-Restore.restoreHash gap-quarantine-journal-Restore.restorePark gap-quarantine-journal-Restore.isPark gap-quarantine-journal-Restore.restore address frameHash h frame frameF degradedF ask after answer held row polled polledWith repark minedAt100 enterAt100 fold pendingIn countsIn capitalText capitalHash parkWith resolveBytes legacyBytes
 starred = record {
   allKnown = refl;
   oneUnknown = refl;
@@ -27,7 +27,7 @@ starred = record {
   headPastClaim = (refl, refl);
   guardHolds = refl;
   noContent = refl;
-  anyOnePair = λ nonce hash e. rw (answer, gap-quarantine-Store.step, gap-quarantine-Store.refusal, gap-quarantine-Store.inputRefusal, gap-quarantine-Store.badContent, e);
+  anyOnePair = λ nonce hash e. rw (answer, frames-Store.step, frames-Store.refusal, frames-Store.inputRefusal, frames-Store.badContent, e);
   degradedHolds = (refl, refl, refl);
   emptyGap = refl;
   finality = (refl, refl, refl, refl);
@@ -37,7 +37,7 @@ starred = record {
 }
 
 pub tempting : Tempting
-unfolding lists-Bytes.eqBytes lists-Bytes.leBytes lists-Lists.keep lists-Lists.isEmpty lists-Lists.collect lists-Lists.isIn wire-Numbers.num wire-Numbers.digits wire-HashText.hexValue wire-HashText.hexDigit wire-HashText.hexText wire-HashText.canonical wire-HashText.unprefixed wire-HashText.allHex wire-HashText.fromHex wire-HashText.parses wire-HashText.parseHash layout-Layout.within layout-Layout.soundTagged layout-Layout.soundText layout-Layout.soundTentative layout-Layout.sound layout-Layout.size layout-Layout.fits layout-Layout.offset layout-Layout.width layout-Layout.slot layout-Layout.cut layout-Layout.join journal-record-Reading.lead journal-record-Reading.isSet journal-record-Reading.tagValue journal-record-Reading.tagNumber journal-record-Reading.textValue journal-record-Reading.fidelityValue journal-record-Reading.consumedValue journal-record-Reading.tentativeValue journal-record-Reading.resolutionValue journal-record-Reading.parkOf journal-record-Reading.tentativeEntryOf journal-record-Reading.resolveOf journal-record-Reading.legacyOf journal-record-Reading.otherOf journal-record-Reading.formOf journal-record-Reading.layoutOf journal-record-Reading.sizeOf journal-record-Reading.versionOf journal-record-Reading.accepted journal-record-Writing.flagByte journal-record-Writing.tagBytes journal-record-Writing.textBytes journal-record-Writing.fidelityByte journal-record-Writing.kindByte journal-record-Writing.tentativeBytes journal-record-Writing.parkFields journal-record-Writing.parkBytes gap-quarantine-Frames.degraded gap-quarantine-Poll.numbersFrom gap-quarantine-Poll.gap gap-quarantine-Poll.predecessors gap-quarantine-Poll.unknown gap-quarantine-Poll.firstIs gap-quarantine-Poll.contentsHold gap-quarantine-Poll.contentMatches gap-quarantine-Poll.boundaryHolds gap-quarantine-Poll.guardMatches gap-quarantine-Poll.stay gap-quarantine-Poll.leave gap-quarantine-Poll.row gap-quarantine-Poll.heldAt gap-quarantine-Poll.pollDegraded gap-quarantine-Poll.pollFull gap-quarantine-Poll.pollIn gap-quarantine-Poll.pollGiven gap-quarantine-Poll.pollRule gap-quarantine-Rules.onlyOf gap-quarantine-Rules.evictRule gap-quarantine-Rules.differs gap-quarantine-Rules.reorgIn gap-quarantine-Rules.reorgRule gap-quarantine-Rules.finalIn gap-quarantine-Rules.finalRule gap-quarantine-Store.empty gap-quarantine-Store.guardOf gap-quarantine-Store.dropGuard gap-quarantine-Store.putGuard gap-quarantine-Store.after gap-quarantine-Store.walk gap-quarantine-Store.walked gap-quarantine-Store.fresh gap-quarantine-Store.insert gap-quarantine-Store.isTracked gap-quarantine-Store.enters gap-quarantine-Store.enterWith gap-quarantine-Store.enterFirst gap-quarantine-Store.anyEnters gap-quarantine-Store.effect gap-quarantine-Store.when gap-quarantine-Store.orElse gap-quarantine-Store.wideGap gap-quarantine-Store.badContent gap-quarantine-Store.badContents gap-quarantine-Store.noRoomFor gap-quarantine-Store.inputRefusal gap-quarantine-Store.entriesOf gap-quarantine-Store.listed gap-quarantine-Store.roomRefusal gap-quarantine-Store.refusal gap-quarantine-Store.unless gap-quarantine-Store.step gap-quarantine-Store.run gap-quarantine-Store.calls gap-quarantine-journal-Pending.putPark gap-quarantine-journal-Pending.removePark gap-quarantine-journal-Pending.withTentative gap-quarantine-journal-Pending.enterPark gap-quarantine-journal-Pending.allZero gap-quarantine-journal-Pending.isNonZero gap-quarantine-journal-Pending.isFull gap-quarantine-journal-Pending.fullOr gap-quarantine-journal-Pending.settledFidelity gap-quarantine-journal-Pending.settled gap-quarantine-journal-Pending.orElse gap-quarantine-journal-Pending.orDefault gap-quarantine-journal-Pending.legacyHash gap-quarantine-journal-Pending.legacyClaimed gap-quarantine-journal-Pending.legacyFull gap-quarantine-journal-Pending.migrated gap-quarantine-journal-Fold.plus gap-quarantine-journal-Fold.begin gap-quarantine-journal-Fold.keep64 gap-quarantine-journal-Fold.applyPark gap-quarantine-journal-Fold.applyTentative gap-quarantine-journal-Fold.applyResolve gap-quarantine-journal-Fold.applyLegacyAs gap-quarantine-journal-Fold.applyLegacy gap-quarantine-journal-Fold.applyOther gap-quarantine-journal-Fold.apply gap-quarantine-journal-Fold.stepWhole gap-quarantine-journal-Fold.stepForm gap-quarantine-journal-Fold.stepOf gap-quarantine-journal-Fold.after gap-quarantine-journal-Fold.foldFrom gap-quarantine-journal-Fold.roomFor gap-quarantine-journal-Fold.foldJournal gap-quarantine-journal-Fold.output gap-quarantine-journal-Restore.frameOf gap-quarantine-journal-Restore.restoreDegraded gap-quarantine-journal-Restore.restoreFull gap-quarantine-journal-Restore.restoreAs gap-quarantine-journal-Restore.restoreHash gap-quarantine-journal-Restore.restorePark gap-quarantine-journal-Restore.isPark gap-quarantine-journal-Restore.restore address frameHash h frame frameF degradedF ask after answer held row polled polledWith repark minedAt100 enterAt100 fold pendingIn countsIn capitalText capitalHash parkWith resolveBytes legacyBytes
+unfolding lists-Bytes.eqBytes lists-Bytes.leBytes lists-Lists.keep lists-Lists.isEmpty lists-Lists.collect lists-Lists.isIn wire-Numbers.num wire-Numbers.digits wire-HashText.hexValue wire-HashText.hexDigit wire-HashText.hexText wire-HashText.canonical wire-HashText.unprefixed wire-HashText.allHex wire-HashText.fromHex wire-HashText.parses wire-HashText.parseHash layout-Layout.within layout-Layout.soundTagged layout-Layout.soundText layout-Layout.soundTentative layout-Layout.sound layout-Layout.size layout-Layout.fits layout-Layout.offset layout-Layout.width layout-Layout.slot layout-Layout.cut layout-Layout.join journal-record-Reading.lead journal-record-Reading.isSet journal-record-Reading.tagValue journal-record-Reading.tagNumber journal-record-Reading.textValue journal-record-Reading.fidelityValue journal-record-Reading.consumedValue journal-record-Reading.tentativeValue journal-record-Reading.resolutionValue journal-record-Reading.parkOf journal-record-Reading.tentativeEntryOf journal-record-Reading.resolveOf journal-record-Reading.legacyOf journal-record-Reading.otherOf journal-record-Reading.formOf journal-record-Reading.layoutOf journal-record-Reading.sizeOf journal-record-Reading.versionOf journal-record-Reading.accepted journal-record-Writing.flagByte journal-record-Writing.tagBytes journal-record-Writing.textBytes journal-record-Writing.fidelityByte journal-record-Writing.kindByte journal-record-Writing.tentativeBytes journal-record-Writing.parkFields journal-record-Writing.parkBytes frames-Frames.degraded frames-Poll.numbersFrom frames-Poll.gap frames-Poll.predecessors frames-Poll.unknown frames-Poll.firstIs frames-Poll.contentsHold frames-Poll.contentMatches frames-Poll.boundaryHolds frames-Poll.guardMatches frames-Poll.stay frames-Poll.leave frames-Poll.row frames-Poll.heldAt frames-Poll.pollDegraded frames-Poll.pollFull frames-Poll.pollIn frames-Poll.pollGiven frames-Poll.pollRule frames-Rules.onlyOf frames-Rules.evictRule frames-Rules.differs frames-Rules.reorgIn frames-Rules.reorgRule frames-Rules.finalIn frames-Rules.finalRule frames-Store.empty frames-Store.guardOf frames-Store.dropGuard frames-Store.putGuard frames-Store.after frames-Store.walk frames-Store.walked frames-Store.fresh frames-Store.insert frames-Store.isTracked frames-Store.enters frames-Store.enterWith frames-Store.enterFirst frames-Store.anyEnters frames-Store.effect frames-Store.when frames-Store.orElse frames-Store.wideGap frames-Store.badContent frames-Store.badContents frames-Store.noRoomFor frames-Store.inputRefusal frames-Store.entriesOf frames-Store.listed frames-Store.roomRefusal frames-Store.refusal frames-Store.unless frames-Store.step frames-Store.run frames-Store.calls gap-quarantine-journal-Pending.putPark gap-quarantine-journal-Pending.removePark gap-quarantine-journal-Pending.withTentative gap-quarantine-journal-Pending.enterPark gap-quarantine-journal-Pending.allZero gap-quarantine-journal-Pending.isNonZero gap-quarantine-journal-Pending.isFull gap-quarantine-journal-Pending.fullOr gap-quarantine-journal-Pending.settledFidelity gap-quarantine-journal-Pending.settled gap-quarantine-journal-Pending.orElse gap-quarantine-journal-Pending.orDefault gap-quarantine-journal-Pending.legacyHash gap-quarantine-journal-Pending.legacyClaimed gap-quarantine-journal-Pending.legacyFull gap-quarantine-journal-Pending.migrated gap-quarantine-journal-Fold.plus gap-quarantine-journal-Fold.begin gap-quarantine-journal-Fold.keep64 gap-quarantine-journal-Fold.applyPark gap-quarantine-journal-Fold.applyTentative gap-quarantine-journal-Fold.applyResolve gap-quarantine-journal-Fold.applyLegacyAs gap-quarantine-journal-Fold.applyLegacy gap-quarantine-journal-Fold.applyOther gap-quarantine-journal-Fold.apply gap-quarantine-journal-Fold.stepWhole gap-quarantine-journal-Fold.stepForm gap-quarantine-journal-Fold.stepOf gap-quarantine-journal-Fold.after gap-quarantine-journal-Fold.foldFrom gap-quarantine-journal-Fold.roomFor gap-quarantine-journal-Fold.foldJournal gap-quarantine-journal-Fold.output gap-quarantine-journal-Restore.frameOf gap-quarantine-journal-Restore.restoreDegraded gap-quarantine-journal-Restore.restoreFull gap-quarantine-journal-Restore.restoreAs gap-quarantine-journal-Restore.restoreHash gap-quarantine-journal-Restore.restorePark gap-quarantine-journal-Restore.isPark gap-quarantine-journal-Restore.restore address frameHash h frame frameF degradedF ask after answer held row polled polledWith repark minedAt100 enterAt100 fold pendingIn countsIn capitalText capitalHash parkWith resolveBytes legacyBytes
 tempting = record {
   consumeAtClaim = refl;
   countDegradedPark = refl;

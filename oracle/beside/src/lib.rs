@@ -1,4 +1,6 @@
 //! The quarantine beside the published Rust.
+#[macro_use]
+mod wrong_rules;
 pub mod hex;
 pub mod intended;
 pub mod journal;

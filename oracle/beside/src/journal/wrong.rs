@@ -1,17 +1,5 @@
 //! Wrong rules for the journal, each planted alone into the model; the generated journals must tell each from the Rust.
 
-macro_rules! wrong_rules {
-    ($($name:ident: $says:expr,)*) => {
-        #[derive(Clone, Copy, Debug, PartialEq, Eq)]
-        pub enum Wrong {
-            $($name,)*
-        }
-
-        /// Every wrong rule, and what it says.
-        pub const ALL: &[(Wrong, &str)] = &[$((Wrong::$name, $says),)*];
-    };
-}
-
 wrong_rules! {
     DegradedParkCounted: "a QP that becomes degraded is counted in degraded",
     KeyParsed: "QT and QR find a key by the hash that its text parses to",

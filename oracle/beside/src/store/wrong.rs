@@ -1,17 +1,5 @@
 //! Wrong rules for the store, each planted alone into the model; the generated scripts must tell each from the Rust.
 
-macro_rules! wrong_rules {
-    ($($name:ident: $says:expr,)*) => {
-        #[derive(Clone, Copy, Debug, PartialEq, Eq)]
-        pub enum Wrong {
-            $($name,)*
-        }
-
-        /// Every wrong rule, and what it says.
-        pub const ALL: &[(Wrong, &str)] = &[$((Wrong::$name, $says),)*];
-    };
-}
-
 wrong_rules! {
     ConsumedAtClaim: "a head equal to the claim consumes the nonce",
     ConsumedLeaves: "a consumed frame leaves",
