@@ -1,10 +1,13 @@
 pub mod Ascending
 pub mod ByteOrder
+pub mod Chunks
 pub mod Compacting
 pub mod Elements
 pub mod Keeping
+pub mod Listing
 pub mod Parts
 pub mod Pasting
+pub mod Same
 pub mod Searching
 pub mod Shifting
 pub mod Turns

@@ -47,6 +47,11 @@ copy-more at l out j h b =
 
 -- ---- one element after another
 
+pub collect-append : {A : Type 0} (f : A → List ℕ) (a b : List A) → collect f (a ++ b) ≡ collect f a ++ collect f b
+unfolding collect
+collect-append f [] b = refl
+collect-append f (x ∷ xs) b = rw (collect-append f xs b) (sym (append-assoc (f x) (collect f xs) (collect f b)))
+
 module _ {X A : Type 0} (item : X → A) (f : A → List ℕ) (size : ℕ) where
   -- what is written after `i` of `n` elements
   pub record Wrote (xs : List X) (n : ℕ) (out₀ out : List ℕ) (i : ℕ) : Type 0 where
@@ -59,18 +64,13 @@ module _ {X A : Type 0} (item : X → A) (f : A → List ℕ) (size : ℕ) where
   unfolding collect
   start xs n out = record { within = omega arith; sized = omega arith; same = refl; holds = refl }
 
-  collect-append : (a b : List A) → collect f (a ++ b) ≡ collect f a ++ collect f b
-  unfolding collect
-  collect-append [] b = refl
-  collect-append (x ∷ xs) b = rw (collect-append xs b) (sym (append-assoc (f x) (collect f xs) (collect f b)))
-
   map-more : (l : List X) (v : X) → map item (l ++ (v ∷ [])) ≡ map item l ++ (item v ∷ [])
   map-more [] v = refl
   map-more (x ∷ xs) v = ap {B = List A} (λ r. item x ∷ r) (map-more xs v)
 
   one-more : (xs : List X) (i : ℕ) (d : X) → i < length xs → collect f (map item (take (i + 1) xs)) ≡ collect f (map item (take i xs)) ++ f (item (getD xs i d))
   unfolding collect
-  one-more xs i d h = rw (add-one, take-suc xs i d h, map-more (take i xs) (getD xs i d), collect-append (map item (take i xs)) (item (getD xs i d) ∷ []), append-nil)
+  one-more xs i d h = rw (add-one, take-suc xs i d h, map-more (take i xs) (getD xs i d), collect-append f (map item (take i xs)) (item (getD xs i d) ∷ []), append-nil)
 
   pub wrote-more : (xs : List X) (n : ℕ) (out₀ out : List ℕ) (i : ℕ) (d : X) (out′ : List ℕ) → Wrote xs n out₀ out i → i < n → n ≤ length xs → size * n ≤ length out₀ →
       length (f (item (getD xs i d))) ≡ size → out′ ≡ writtenAt (size * i) (f (item (getD xs i d))) out → Wrote xs n out₀ out′ (i + 1)

@@ -1,5 +1,5 @@
 -- Lists: what passes a test, what holds of every element, and a list written to the front of a slice.
-use Prim.Native.Nat.{ℕ}
+use Prim.Native.Nat.{ℕ, zero, suc}
 use mathlib.Core.Bool.{Bool, true, false, _||_, cond}
 use mathlib.Core.List.{List, [], _∷_, _++_}
 use lib.Dec.{eqb}
@@ -32,6 +32,11 @@ written l slice = l ++ drop (length l) slice
 -- a slice with the list from a place on; what lies before and past it stays
 abbrev pub writtenAt : ℕ → List ℕ → List ℕ → List ℕ
 writtenAt at l slice = take at slice ++ written l (drop at slice)
+
+-- a list cut into so many parts of one width, from its front on
+unfoldable pub chunks : ℕ → ℕ → List ℕ → List (List ℕ)
+chunks width zero l = []
+chunks width (suc count) l = take width l ∷ chunks width count (drop width l)
 
 -- whether a number is in the list
 unfoldable pub isIn : ℕ → List ℕ → Bool

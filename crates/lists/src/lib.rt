@@ -1,23 +1,26 @@
-// Lists of bytes and of numbers: equality, byte order and membership.
+// Lists of bytes and of numbers: equality, byte order and membership, and numbers written to a slice.
 ghost use mathlib.Core.Path.{_≡_};
+ghost use Prim.Native.Nat.{_+_, _≤_};
+ghost use lib.ListN.{length};
 ghost use Rattle.lists.specs.Bytes.{eqBytes, eqNumbers, leBytes};
-ghost use Rattle.lists.specs.Lists.{isIn};
+ghost use Rattle.lists.specs.Lists.{isIn, writtenAt};
 
-// Whether two slices hold the same bytes.
+// Whether two slices hold the same bytes. The loop has no early way out, so that many bytes can be compared at once.
 pub fn same_bytes(a: &[u8], b: &[u8]) -> bool
     ensures { λ r. ⌜ r ≡ eqBytes (now (a .entry)) (now (b .entry)) ⌝ }
 {
     if a.len() != b.len() {
         return false;
     }
+    let mut same = true;
     let mut i = 0;
     while i < a.len() {
         if a[i] != b[i] {
-            return false;
+            same = false;
         }
         i += 1;
     }
-    true
+    same
 }
 
 // Whether two slices hold the same numbers.
@@ -69,4 +72,16 @@ pub fn is_in(n: u64, list: &[u64]) -> bool
         i += 1;
     }
     false
+}
+
+// Numbers, to their place in the slice.
+pub fn put_numbers(out: &mut [u64], at: usize, numbers: &[u64])
+    requires { ⌜ at + length (now numbers) ≤ length (now out) ⌝ }
+    ensures { λ _. ⌜ now (out .exit) ≡ writtenAt at (now (numbers .entry)) (now (out .entry)) ⌝ }
+{
+    let mut i: usize = 0;
+    while i < numbers.len() {
+        out[at + i] = numbers[i];
+        i += 1;
+    }
 }

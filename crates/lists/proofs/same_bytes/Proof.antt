@@ -1,19 +1,21 @@
-use Prim.Native.Nat.{_-_, _≤_}
+use Prim.Native.Nat.{_+_, _-_, _≤_, _<_}
 use native.Mathlib.Omega.{arith}
-use mathlib.Core.Path.{_≡_, refl, sym, _∙_}
+use mathlib.Core.Path.{_≡_, refl, sym}
+use mathlib.Core.Bool.{_&&_}
+use mathlib.Core.Logic.{⊎-elim}
 use lib.ListN.{length, drop}
-use borrow.Author.Tests.{eq-eqb, ne-eqb}
 use Rattle.lists.specs.Bytes.{eqBytes}
-use Rattle.lists.proofs.Turns.{eq-turn, eq-none, eq-lengths}
+use Rattle.lists.proofs.Turns.{eq-lengths}
+use Rattle.lists.proofs.Same.{differs, agrees, done}
 use borrow.Author.Needs.{needs}
 use Rattle.lists.proofs.same_bytes.Statement.{statement}
 use Rattle.lists.proofs.same_bytes.Tie as tie
 
 abbrev Inv-loop : tie.InvT-loop
-Inv-loop a b i₀ i = (i ≤ length a) × (length a ≡ length b) × (eqBytes a b ≡ eqBytes (drop i a) (drop i b))
+Inv-loop a b same₀ i₀ same i = (i ≤ length a) × (length a ≡ length b) × (eqBytes a b ≡ (same && eqBytes (drop i a) (drop i b)))
 
 abbrev μ-loop : tie.MeasureT-loop
-μ-loop a b i₀ i = length a - i
+μ-loop a b same₀ i₀ same i = length a - i
 
 returns : tie.Need-returns Inv-loop μ-loop
 returns c = sym (eq-lengths _ _ (c .if1 .taken))
@@ -27,12 +29,6 @@ shared-slice-read-if2 c = search needs
 shared-slice-read-if2-2 : tie.Need-shared-slice-read-if2-2 Inv-loop μ-loop
 shared-slice-read-if2-2 c = search needs
 
-returns-2 : tie.Need-returns-2 Inv-loop μ-loop
-returns-2 c =
-    let a = (c .before .before .before .before .before .before) .args .a .now in
-    let b = (c .before .before .before .before .before .before) .args .b .now in
-    sym ((c .before .before .before .before) .loop .inv .2 ∙ eq-turn a b ((c .before .before .before .before) .loop .i) (omega arith) (omega arith) ∙ simp (ne-eqb _ _ (c .if2 .taken)))
-
 add-i : tie.Need-add-i Inv-loop μ-loop
 add-i c = search needs
 
@@ -41,25 +37,27 @@ loop-less c = search needs
 
 loop-again : tie.Need-loop-again Inv-loop μ-loop
 loop-again c =
+    let l = (c .before .before .before .before) .loop in
     let a = (c .before .before .before .before .before .before) .args .a .now in
     let b = (c .before .before .before .before .before .before) .args .b .now in
-    (search needs, (c .before .before .before .before) .loop .inv .1, (c .before .before .before .before) .loop .inv .2 ∙ eq-turn a b ((c .before .before .before .before) .loop .i) (omega arith) (omega arith) ∙ simp (eq-eqb _ _ (c .if2 .left)))
+    let h : l .i < length ((c .before .before .before .before .before .before) .args .a .now) = omega (arith, (c .before .before .before) .loop-test .taken) in
+    let k : l .i < length ((c .before .before .before .before .before .before) .args .b .now) = omega (arith, l .inv .1, (c .before .before .before) .loop-test .taken) in (
+      search needs,
+      l .inv .1,
+      ⊎-elim {C = eqBytes a b ≡ (c .if2 .same && eqBytes (drop (l .i + 1) a) (drop (l .i + 1) b))}
+          (λ w. rw (w .1) (differs a b (l .i) (l .same) h k (l .inv .2) (w .0 .taken)))
+          (λ w. rw (w .1) (agrees a b (l .i) (l .same) h k (l .inv .2) (w .0 .left)))
+          (c .if2 .came),
+    )
 
-returns-3 : tie.Need-returns-3 Inv-loop μ-loop
-returns-3 c = sym ((c .before) .loop .inv .2 ∙ eq-none ((c .before .before .before) .args .a .now) ((c .before .before .before) .args .b .now) ((c .before) .loop .i) (omega arith) (omega arith))
+returns-2 : tie.Need-returns-2 Inv-loop μ-loop
+returns-2 c =
+    let l = (c .before) .loop in
+    let a = (c .before .before .before) .args .a .now in
+    let b = (c .before .before .before) .args .b .now in
+    sym (done a b (l .i) (l .same) (omega (arith, c .loop-test .left)) (omega (arith, l .inv .1, c .loop-test .left)) (l .inv .2))
 
 pub same-bytes-spec : {M : Type 1} → statement M
 same-bytes-spec =
     tie.close
-    (tie.spec
-    Inv-loop
-    μ-loop
-    returns
-    loop-holds
-    shared-slice-read-if2
-    shared-slice-read-if2-2
-    returns-2
-    add-i
-    loop-less
-    loop-again
-    returns-3)
+    (tie.spec Inv-loop μ-loop returns loop-holds shared-slice-read-if2 shared-slice-read-if2-2 add-i loop-less loop-again returns-2)
