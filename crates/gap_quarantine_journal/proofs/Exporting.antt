@@ -14,7 +14,7 @@ use Rattle.refusal.specs.declared.Refusal.{Refusal}
 use Rattle.refusal.specs.declared.Refusal.the-variants.{WideGap, StoreFull, ManyKnown, BadContent, ShortSlice, ManyPredecessors, BadGuardContent, GuardsFull, LongJournal, UnknownMark, BadRecord, PendingFull, ShortOutput, BadHashText, NoSender, NoWire}
 use Rattle.journal_record.specs.View.{parkSeen}
 use Rattle.gap_quarantine_journal.specs.Fold.{roomFor, foldJournal, output}
-use Rattle.frames.specs.View.{frameOf}
+use Rattle.store_rules.specs.View.{frameOf}
 use Rattle.gap_quarantine_journal.specs.Restore.{restore}
 use Rattle.gap_quarantine_journal.specs.Export.{turnedAway, fiveTotals, exportedAs, exported, frameBytes, exportedFrameAs, exportedFrame}
 use Rattle.gap_quarantine_journal.specs.View.{parksSeen, FoldsRecords, restoredSeen}

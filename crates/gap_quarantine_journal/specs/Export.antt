@@ -8,7 +8,7 @@ use Rattle.lists.specs.Bytes.{Bytes}
 use Rattle.lists.specs.Lists.{collect, written}
 use Rattle.wire.specs.Numbers.{digits}
 use Rattle.layout.specs.Layout.{join}
-use Rattle.frames.specs.Frames.{Frame}
+use Rattle.store_rules.specs.Frames.{Frame}
 use Rattle.gap_quarantine_journal.specs.Fold.{Folded, Outcome, folded, refused, foldJournal, output}
 use Rattle.gap_quarantine_journal.specs.Restore as restore
 use Rattle.gap_quarantine_journal.specs.Restore.{Restored, restored}

@@ -6,13 +6,13 @@ ghost use lib.ListN.{length};
 ghost use Rattle.lists.specs.Lists.{collect, written};
 ghost use Rattle.wire.specs.Numbers.{digits};
 ghost use Rattle.refusal.specs.Numbers.{refusalNumber};
-ghost use Rattle.frames.specs.View.{frameOf};
+ghost use Rattle.store_rules.specs.View.{frameOf};
 ghost use Rattle.gap_quarantine_journal.specs.Export.{frameBytes};
 ghost use Rattle.gap_quarantine_journal.specs.Fold.{output};
 ghost use Rattle.gap_quarantine_journal.specs.View.{parksSeen};
 use super::pending::PendingSet;
-use frames::ParkedFrame;
 use refusal::Refusal;
+use store_rules::ParkedFrame;
 use totals::Totals;
 
 // Writes the pending records, 240 bytes each.

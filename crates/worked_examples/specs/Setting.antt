@@ -6,8 +6,8 @@ use mathlib.Core.Option.{Option, none, some}
 use lib.ListN.{length, replicate}
 use Rattle.lists.specs.Bytes.{Bytes}
 use Rattle.wire.specs.Numbers.{digits}
-use Rattle.frames.specs.Frames.{Frame, Consumed, mined, reparked, Decision, Row}
-use Rattle.frames.specs.Store.{Store, empty, Call, Request, poll, guard, enterTentative, Answer, step, run}
+use Rattle.store_rules.specs.Frames.{Frame, Consumed, mined, reparked, Decision, Row}
+use Rattle.store_rules.specs.Store.{Store, empty, Call, long, Request, poll, guard, enterTentative, Answer, step, run}
 use Rattle.journal_record.specs.Records.{Fidelity, degraded, Park, resolveMark, legacyMark}
 use Rattle.gap_quarantine_journal.specs.Fold.{Counts, Outcome, folded, refused, foldJournal}
 
@@ -36,7 +36,7 @@ degradedF = frame 5 8 0 0
 
 -- the calls have room for one row, or for one frame
 unfoldable pub ask : Call → Request
-ask c = record { call = c; numbers = 19; bytes = 64 }
+ask c = record { call = c; form = long; numbers = 19; bytes = 64 }
 
 -- the store after these calls
 unfoldable pub after : List Call → Store

@@ -5,8 +5,8 @@ use mathlib.Core.List.{[], _∷_, _++_, map}
 use mathlib.Core.Option.{none, some}
 use lib.ListN.{length}
 use Rattle.lists.specs.Bytes.{Bytes}
-use Rattle.frames.specs.Frames.{rescue, nonceConsumed, stillWaiting}
-use Rattle.frames.specs.Store.{push, checkReorg, checkFinalized, rows, frames, dead}
+use Rattle.store_rules.specs.Frames.{rescue, nonceConsumed, stillWaiting}
+use Rattle.store_rules.specs.Store.{push, checkReorg, checkFinalized, rows, frames, dead}
 use Rattle.journal_record.specs.Records.{full}
 use Rattle.journal_record.specs.Writing.{parkBytes}
 use Rattle.worked_examples.specs.Setting.{h, frame, frameF, degradedF, answer, held, row, polled, polledWith, repark, minedAt100, enterAt100, fold, pendingIn, countsIn, capitalText, capitalHash, parkWith, resolveBytes, legacyBytes}

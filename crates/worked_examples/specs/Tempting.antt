@@ -4,8 +4,8 @@ use mathlib.Core.List.{[], _∷_, _++_, map}
 use mathlib.Core.Option.{none, some}
 use lib.ListN.{replicate}
 use Rattle.wire.specs.HashText.{canonical}
-use Rattle.frames.specs.Frames.{rescue}
-use Rattle.frames.specs.Store.{push, rows}
+use Rattle.store_rules.specs.Frames.{rescue}
+use Rattle.store_rules.specs.Store.{push, rows}
 use Rattle.journal_record.specs.Records.{full, degraded}
 use Rattle.journal_record.specs.Writing.{parkBytes}
 use Rattle.gap_quarantine_journal.specs.Restore.{restored, restore}
