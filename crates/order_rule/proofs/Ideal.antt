@@ -8,11 +8,11 @@ use mathlib.Core.Option.{Option, none, some}
 use lib.ListN.{length}
 use Rattle.lists.specs.Bytes.{Bytes, eqBytes}
 use Rattle.lists.proofs.ByteOrder.{eqBytes-of, eqBytes-true, eqBytes-refl, clash}
-use Rattle.frames.specs.Frames.{Frame, Entry, Guard, Visit}
-use Rattle.frames.specs.Poll.{pollRule}
-use Rattle.frames.specs.Rules.{onlyOf, evictRule, reorgRule, finalRule}
+use Rattle.store_rules.specs.Frames.{Frame, Entry, Guard, Visit}
+use Rattle.store_rules.specs.Poll.{pollRule}
+use Rattle.store_rules.specs.Rules.{onlyOf, evictRule, reorgRule, finalRule}
 use Rattle.lists.specs.Lists.{keep}
-use Rattle.frames.specs.Store.{Store, SameStore, guardOf, dropGuard, putGuard, Call, push, poll, guard, enterTentative, evictSender, checkReorg, checkFinalized, Answer, total, rows, recorded, entered, frames, dead, refused, after, walk, walked, insert, fresh, enterFirst, anyEnters, effect, when, orElse, inputRefusal, roomRefusal, unless, Request, refusal, step, run, calls}
+use Rattle.store_rules.specs.Store.{Store, RowForm, SameStore, guardOf, dropGuard, putGuard, Call, push, poll, guard, enterTentative, evictSender, checkReorg, checkFinalized, Answer, total, rows, recorded, entered, frames, dead, refused, after, walk, walked, insert, fresh, enterFirst, anyEnters, effect, when, orElse, inputRefusal, roomRefusal, unless, Request, refusal, step, run, calls}
 use Rattle.order_rule.specs.Orders.{shown, transcript, aboutRoom, EnoughRoom}
 
 abbrev pub Guards : Type 0
@@ -176,20 +176,20 @@ unfolding when
 when-room true n h = h
 when-room false n h = tt
 
-room-only : (s : Store) (c : Call) (numbers bytes : ℕ) → RoomOnly (roomRefusal s c numbers bytes)
+room-only : (s : Store) (c : Call) (form : RowForm) (numbers bytes : ℕ) → RoomOnly (roomRefusal s c form numbers bytes)
 unfolding roomRefusal aboutRoom
-room-only s (push f) numbers bytes = when-room _ 2 refl
-room-only s (poll a head known content) numbers bytes = when-room _ 5 refl
-room-only s (guard g) numbers bytes = when-room _ 8 refl
-room-only s (enterTentative h c) numbers bytes = tt
-room-only s (evictSender a) numbers bytes = when-room _ 5 refl
-room-only s (checkReorg b canonical) numbers bytes = when-room _ 5 refl
-room-only s (checkFinalized n) numbers bytes = when-room _ 5 refl
+room-only s (push f) form numbers bytes = when-room _ 2 refl
+room-only s (poll a head known content) form numbers bytes = when-room _ 5 refl
+room-only s (guard g) form numbers bytes = when-room _ 8 refl
+room-only s (enterTentative h c) form numbers bytes = tt
+room-only s (evictSender a) form numbers bytes = when-room _ 5 refl
+room-only s (checkReorg b canonical) form numbers bytes = when-room _ 5 refl
+room-only s (checkFinalized n) form numbers bytes = when-room _ 5 refl
 
 -- a call that is not refused for want of room is the ideal call
 step-view : (s : Store) (q : Request) → aboutRoom (step s q .1) ≡ false → stepᵢ (view s) (q .call) ≡ seen (step s q)
 unfolding stepᵢ step seen unless unlessᵢ refusal orElse
-step-view s q = go (inputRefusal (q .call)) (roomRefusal s (q .call) (q .numbers) (q .bytes)) (room-only s (q .call) (q .numbers) (q .bytes))
+step-view s q = go (inputRefusal (q .call)) (roomRefusal s (q .call) (q .form) (q .numbers) (q .bytes)) (room-only s (q .call) (q .form) (q .numbers) (q .bytes))
   where
     c : Call
     c = q .call

@@ -7,8 +7,8 @@ use mathlib.Core.Option.{Option, none, some}
 use Prim.Native.Nat.{ℕ}
 use Rattle.lists.specs.Bytes.{Bytes, leBytes}
 use Rattle.lists.proofs.ByteOrder.{leBytes-trans, leBytes-total}
-use Rattle.frames.specs.Frames.{Frame, Consumed, Standing, Entry, Guard, Visit}
-use Rattle.frames.specs.Store.{NotBefore, Sorted, Call, push, poll, guard, enterTentative, evictSender, checkReorg, checkFinalized, after, insert, fresh, enters, enterWith, enterFirst, inputRefusal}
+use Rattle.store_rules.specs.Frames.{Frame, Consumed, Standing, Entry, Guard, Visit}
+use Rattle.store_rules.specs.Store.{NotBefore, Sorted, Call, push, poll, guard, enterTentative, evictSender, checkReorg, checkFinalized, after, insert, fresh, enters, enterWith, enterFirst, inputRefusal}
 use Rattle.order_rule.specs.Orders.{Key, sender}
 use Rattle.lists.specs.Lists.{Each}
 use Rattle.lists.proofs.Keeping.{each-map}

@@ -8,8 +8,8 @@ use mathlib.Core.Option.{Option, none, some, Option·some-injective, Option·non
 use Rattle.lists.specs.Bytes.{Bytes, eqBytes}
 use Rattle.lists.proofs.ByteOrder.{eqBytes-true, eqBytes-of, clash}
 use Rattle.lists.proofs.Keeping.{mem-keep, keep-mem}
-use Rattle.frames.specs.Frames.{Frame, Entry}
-use Rattle.frames.specs.Store.{Call, push, poll, guard, enterTentative, evictSender, checkReorg, checkFinalized}
+use Rattle.store_rules.specs.Frames.{Frame, Entry}
+use Rattle.store_rules.specs.Store.{Call, push, poll, guard, enterTentative, evictSender, checkReorg, checkFinalized}
 use Rattle.order_rule.specs.Orders.{Key, sender, alone, pushOf, ownerBy, ownerIn, pushesOf, keyBy, OneSender, isFor, ofKey, Keyed, nothing, also, SameCalls, TwoOrders, rest, cut}
 use Rattle.order_rule.proofs.Invariant.{OwnedCall}
 use Rattle.order_rule.proofs.Part.{eqKey-refl}

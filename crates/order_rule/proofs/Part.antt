@@ -8,10 +8,10 @@ use mathlib.Core.Option.{Option, none, some, Option·some-injective, Option·non
 use Prim.Native.Nat.{ℕ}
 use Rattle.lists.specs.Bytes.{Bytes, eqBytes, leBytes}
 use Rattle.lists.proofs.ByteOrder.{eqBytes-refl, eqBytes-true, leBytes-refl, clash}
-use Rattle.frames.specs.Frames.{Consumed, Standing, Entry, Guard, Visit}
-use Rattle.frames.specs.Poll.{stay, pollRule}
-use Rattle.frames.specs.Rules.{onlyOf, evictRule}
-use Rattle.frames.specs.Store.{NotBefore, Sorted, Call, push, poll, guard, enterTentative, evictSender, checkReorg, checkFinalized, Answer, total, rows, recorded, entered, frames, after, insert, fresh, enters, enterWith, enterFirst, anyEnters, inputRefusal}
+use Rattle.store_rules.specs.Frames.{Consumed, Standing, Entry, Guard, Visit}
+use Rattle.store_rules.specs.Poll.{stay, pollRule}
+use Rattle.store_rules.specs.Rules.{onlyOf, evictRule}
+use Rattle.store_rules.specs.Store.{NotBefore, Sorted, Call, push, poll, guard, enterTentative, evictSender, checkReorg, checkFinalized, Answer, total, rows, recorded, entered, frames, after, insert, fresh, enters, enterWith, enterFirst, anyEnters, inputRefusal}
 use Rattle.order_rule.specs.Orders.{Key, sender, alone, eqKey, keyBy, shown}
 use Rattle.lists.specs.Lists.{keep, Each}
 use Rattle.lists.proofs.Keeping.{keep-yes, keep-no, keep-cong}

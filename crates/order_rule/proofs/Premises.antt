@@ -12,11 +12,11 @@ use Rattle.lists.specs.Lists
 use Rattle.lists.specs.Lists.{keep}
 use Rattle.lists.proofs.ByteOrder.{eqBytes-true}
 use Rattle.lists.proofs.Elements.{keep-none}
-use Rattle.frames.specs.Frames.{Frame, Entry, degraded}
-use Rattle.frames.specs.Poll
-use Rattle.frames.specs.Rules
-use Rattle.frames.specs.Store
-use Rattle.frames.specs.Store.{empty, isTracked, Call, push, Answer, Request, run, calls}
+use Rattle.store_rules.specs.Frames.{Frame, Entry, degraded}
+use Rattle.store_rules.specs.Poll
+use Rattle.store_rules.specs.Rules
+use Rattle.store_rules.specs.Store
+use Rattle.store_rules.specs.Store.{empty, isTracked, Call, push, Answer, Request, run, calls}
 use Rattle.order_rule.specs.Orders
 use Rattle.order_rule.specs.Orders.{Key, sender, pushOf, ownerIn, keyBy, OneSender, Keyed, nothing, also, rest, cut, transcript, aboutRoom, EnoughRoom}
 use Rattle.order_rule.specs.Premises
@@ -48,7 +48,7 @@ apart p xs ys n e = eqb-false _ _ n (ap (λ (l : List Entry). length (keep p l))
 -- ---- the claims
 
 pub premises : Premises
-unfolding Store.refusal run empty Store.step Store.unless Store.orElse Store.inputRefusal Store.roomRefusal Store.effect Store.walk Store.walked Store.insert Store.fresh Store.enterFirst Store.anyEnters Store.enters Store.enterWith isTracked Store.guardOf Store.dropGuard Store.after Store.when Store.wideGap Store.badContent Store.listed Store.entriesOf calls keep Lists.isEmpty Lists.isIn eqBytes leBytes degraded Poll.numbersFrom Poll.gap Poll.predecessors Poll.unknown Poll.guardMatches Poll.stay Poll.leave Poll.pollFull Poll.pollIn Poll.pollGiven Poll.pollRule Rules.onlyOf Rules.evictRule Rules.differs Rules.reorgIn Rules.reorgRule Rules.finalIn Rules.finalRule keyBy ownerIn Orders.ownerBy pushOf transcript Orders.shown aboutRoom Orders.eqKey Orders.isFor Orders.ofKey misfits a b h i frame Premises.ask parks parksOf Premises.enters100 Premises.finalized100 Premises.polls enterBefore enterAfter finalityLast finalityBetween pollAfter pollBefore evictFirst evictLast aThenB bBetween
+unfolding Store.refusal run empty Store.step Store.unless Store.orElse Store.inputRefusal Store.roomRefusal Store.rowWidth Store.effect Store.walk Store.walked Store.insert Store.fresh Store.enterFirst Store.anyEnters Store.enters Store.enterWith isTracked Store.guardOf Store.dropGuard Store.after Store.when Store.wideGap Store.badContent Store.listed Store.entriesOf calls keep Lists.isEmpty Lists.isIn eqBytes leBytes degraded Poll.numbersFrom Poll.gap Poll.predecessors Poll.unknown Poll.guardMatches Poll.stay Poll.leave Poll.pollFull Poll.pollIn Poll.pollGiven Poll.pollRule Rules.onlyOf Rules.evictRule Rules.differs Rules.reorgIn Rules.reorgRule Rules.finalIn Rules.finalRule keyBy ownerIn Orders.ownerBy pushOf transcript Orders.shown aboutRoom Orders.eqKey Orders.isFor Orders.ofKey misfits a b h i frame Premises.ask parks parksOf Premises.enters100 Premises.finalized100 Premises.polls enterBefore enterAfter finalityLast finalityBetween pollAfter pollBefore evictFirst evictLast aThenB bBetween
 premises = record {
   oneSender = (
     rest (swap (keyBy (ownerIn (calls enterBefore))) _ _ (sender b) (sender a) refl refl refl (also (sender b) refl nothing) nothing),

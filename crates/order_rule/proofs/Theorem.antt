@@ -5,9 +5,9 @@ use mathlib.Core.Bool.{Bool, true, false}
 use mathlib.Core.List.{List, [], _∷_, _++_, List·Memᴰ, Memᴰ·append-left, Memᴰ·append-right}
 use mathlib.Core.Option.{Option, none, some}
 use Rattle.lists.specs.Bytes.{Bytes}
-use Rattle.frames.specs.Store.{Store, Sorted, empty, SameStore, Call, push, Request, Answer, effect, refusal, unless, step, run, calls}
+use Rattle.store_rules.specs.Store.{Store, Sorted, empty, SameStore, Call, push, Request, Answer, effect, refusal, unless, step, run, calls}
 use Rattle.order_rule.specs.Orders.{Key, eqKey, ownerIn, pushesOf, keyBy, isFor, ofKey, Keyed, nothing, also, SameCalls, TwoOrders, rest, cut, shown, transcript, EnoughRoom, OrderRuleFrom, OrderRule}
-use Rattle.frames.specs.Frames.{Entry}
+use Rattle.store_rules.specs.Frames.{Entry}
 use Rattle.lists.specs.Lists.{keep, Each}
 use Rattle.lists.proofs.Keeping.{each-append, each-of}
 use Rattle.order_rule.proofs.Ideal.{Ideal, view, stepᵢ, runᵢ, transcriptᵢ, seen, effect-view, view-run, view-transcript, same-view}

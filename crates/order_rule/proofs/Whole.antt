@@ -5,12 +5,12 @@ use mathlib.Core.List.{List, [], _∷_, nil≢cons, head-eq-of-cons-eq, tail-eq-
 use mathlib.Core.Option.{none}
 use Rattle.lists.specs.Bytes.{Bytes, eqBytes, leBytes}
 use Rattle.lists.proofs.ByteOrder.{eqBytes-of, leBytes-refl, leBytes-antisym}
-use Rattle.frames.specs.Frames.{Entry}
+use Rattle.store_rules.specs.Frames.{Entry}
 use Rattle.order_rule.specs.Orders.{Key, sender, eqKey}
 use Rattle.lists.specs.Lists.{keep}
 use Rattle.lists.proofs.Keeping.{keep-yes, keep-no}
 use Rattle.order_rule.proofs.Ideal.{Ideal, Guards}
-use Rattle.frames.specs.Store.{Sorted}
+use Rattle.store_rules.specs.Store.{Sorted}
 use Rattle.order_rule.proofs.Part.{mine, mine-is, none-kept, eqKey-refl, only, part}
 
 -- the entries of one sender

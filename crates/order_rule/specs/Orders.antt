@@ -7,9 +7,9 @@ use mathlib.Core.List.{List, [], _∷_, _++_, List·Memᴰ}
 use mathlib.Core.Option.{Option, none, some}
 use lib.Dec.{eqb}
 use Rattle.lists.specs.Bytes.{Bytes, eqBytes}
-use Rattle.frames.specs.Frames.{Frame, Entry}
+use Rattle.store_rules.specs.Frames.{Frame, Entry}
 use Rattle.lists.specs.Lists.{keep}
-use Rattle.frames.specs.Store.{Store, empty, SameStore, Call, push, poll, guard, enterTentative, evictSender, checkReorg, checkFinalized, Answer, total, rows, recorded, entered, frames, dead, refused, Request, step, run, calls}
+use Rattle.store_rules.specs.Store.{Store, empty, SameStore, Call, push, poll, guard, enterTentative, evictSender, checkReorg, checkFinalized, Answer, total, rows, recorded, entered, frames, dead, refused, Request, step, run, calls}
 
 -- ---- whose call it is
 

@@ -6,8 +6,8 @@ use mathlib.Core.List.{List, [], _∷_, _++_}
 use mathlib.Core.Option.{none}
 use lib.ListN.{replicate}
 use Rattle.lists.specs.Bytes.{Bytes}
-use Rattle.frames.specs.Frames.{Frame, mined}
-use Rattle.frames.specs.Store.{empty, SameStore, Call, push, poll, enterTentative, checkReorg, checkFinalized, evictSender, Request, run, calls}
+use Rattle.store_rules.specs.Frames.{Frame, mined}
+use Rattle.store_rules.specs.Store.{empty, SameStore, Call, long, push, poll, enterTentative, checkReorg, checkFinalized, evictSender, Request, run, calls}
 use Rattle.order_rule.specs.Orders.{Key, ownerIn, keyBy, OneSender, ofKey, TwoOrders, EnoughRoom}
 
 -- ---- what is said of two lists
@@ -42,7 +42,7 @@ frame hash from = record { hash = hash; from = from; expected = 5; claim = 8; ch
 
 -- a call that is lent slices for 64 frames
 unfoldable pub ask : Call → Request
-ask c = record { call = c; numbers = 19 * 64; bytes = 64 * 64 }
+ask c = record { call = c; form = long; numbers = 19 * 64; bytes = 64 * 64 }
 
 unfoldable pub parks : Bytes → Bytes → Request
 parks hash from = ask (push (frame hash from))

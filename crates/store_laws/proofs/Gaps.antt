@@ -6,8 +6,8 @@ use mathlib.Core.Bool.{Bool, true, false, _&&_, _||_}
 use lib.Dec.{eqb, leb, ltb}
 use borrow.Author.Tests.{eqb-true, eqb-false, leb-true, leb-false, ltb-true, ltb-false, le-leb, lt-leb, lt-ltb, le-ltb}
 use Rattle.lists.specs.Lists.{isIn}
-use Rattle.frames.specs.Poll.{numbersFrom, gap}
-use Rattle.frames.specs.Store.{wideGap}
+use Rattle.store_rules.specs.Poll.{numbersFrom, gap}
+use Rattle.store_rules.specs.Store.{wideGap}
 use Rattle.store_laws.specs.Reachable.{GapIsWhole}
 
 numbers-in : (n k count : ℕ) → isIn n (numbersFrom k count) ≡ (leb k n && ltb n (k + count))

@@ -11,10 +11,10 @@ use Rattle.lists.specs.Bytes.{Bytes, eqBytes, leBytes}
 use Rattle.lists.specs.Lists.{keep, isEmpty, Each, collect, isIn}
 use Rattle.lists.proofs.ByteOrder.{eqBytes-true, clash}
 use Rattle.lists.proofs.Elements.{each-keep, each-join, in-append, in-keep}
-use Rattle.frames.specs.Frames.{State, tracked, tentative, Frame, Entry, degraded}
-use Rattle.frames.specs.Poll.{gap}
-use Rattle.frames.specs.Store.{empty, NotBefore, Sorted, isTracked, entriesOf, wideGap, run}
-use Rattle.reading.specs.Reading.{Block, putBlock, withBlock, blocksFrom, tentativeBlocks, isAmong, sendersFrom, senders, putNumber, putNumbers, window, poolKnownGap}
+use Rattle.store_rules.specs.Frames.{State, tracked, tentative, Frame, Entry, degraded}
+use Rattle.store_rules.specs.Poll.{gap}
+use Rattle.store_rules.specs.Store.{empty, NotBefore, Sorted, isTracked, entriesOf, wideGap, run}
+use Rattle.queries.specs.Queries.{Block, putBlock, withBlock, blocksFrom, tentativeBlocks, isAmong, sendersFrom, senders, putNumber, putNumbers, window, poolKnownGap}
 use Rattle.store_laws.specs.Pairs.{Pairwise}
 use Rattle.store_laws.specs.Reachable.{Reachable}
 use Rattle.store_laws.specs.Listings.{hashOf, hashIn, lastHash, Below, inWindow, EveryListing}

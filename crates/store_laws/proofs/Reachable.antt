@@ -12,8 +12,8 @@ use Rattle.lists.specs.Bytes.{Bytes, eqBytes, leBytes}
 use Rattle.lists.specs.Lists.{keep, isEmpty, Each}
 use Rattle.lists.proofs.ByteOrder.{eqBytes-true}
 use Rattle.lists.proofs.Elements.{length-keep}
-use Rattle.frames.specs.Frames.{Frame, Entry, Guard, Visit}
-use Rattle.frames.specs.Store.{Store, empty, Call, push, poll, guard, enterTentative, checkReorg, checkFinalized, evictSender, Request, Answer, guardOf, dropGuard, putGuard, walk, walked, insert, fresh, anyEnters, effect, when, orElse, wideGap, noRoomFor, inputRefusal, roomRefusal, refusal, unless, step, run}
+use Rattle.store_rules.specs.Frames.{Frame, Entry, Guard, Visit}
+use Rattle.store_rules.specs.Store.{Store, RowForm, empty, Call, push, poll, guard, enterTentative, checkReorg, checkFinalized, evictSender, Request, Answer, guardOf, dropGuard, putGuard, walk, walked, insert, fresh, anyEnters, effect, when, orElse, wideGap, noRoomFor, inputRefusal, roomRefusal, refusal, unless, step, run}
 use Rattle.order_rule.proofs.Ideal.{Ideal, view, seen, effectᵢ, effect-view}
 use Rattle.order_rule.proofs.Invariant.{Thinner, nothing, skip, also, thinner-each, insert-each, Change, thinned, inserted, change}
 use Rattle.order_rule.proofs.Theorem.{run-sorted}
@@ -45,10 +45,10 @@ insert-length e (f ∷ fs) = go (leBytes (f .frame .from) (e .frame .from)) (ins
     go false h = refl
 
 -- a push that is not refused: the gap is narrow, and there is room
-accepted : (s : Store) (f : Frame) (numbers bytes : ℕ) → orElse (inputRefusal (push f)) (roomRefusal s (push f) numbers bytes) ≡ none →
+accepted : (s : Store) (f : Frame) (form : RowForm) (numbers bytes : ℕ) → orElse (inputRefusal (push f)) (roomRefusal s (push f) form numbers bytes) ≡ none →
     (wideGap f ≡ false) × (length (s .entries) < 64)
 unfolding orElse inputRefusal roomRefusal when
-accepted s f numbers bytes = go (wideGap f) (leb 64 (length (s .entries))) refl
+accepted s f form numbers bytes = go (wideGap f) (leb 64 (length (s .entries))) refl
   where
     go : (w l : Bool) → leb 64 (length (s .entries)) ≡ l → orElse (when w 1) (when l 2) ≡ none → (w ≡ false) × (length (s .entries) < 64)
     go true l p e = absurd (Option·none-ne-some 1 (sym e))
@@ -62,7 +62,7 @@ effect-entries s q e h = subst Entries (ap (λ (r : Ideal × Answer). r .0 .entr
     go : Change (view s) (q .call) → Entries (effectᵢ (view s) (q .call) .0 .entries)
     go (thinned t) = let l = thinner-length t in record { entries = omega arith; narrow = thinner-each (λ f. wideGap f ≡ false) t (h .narrow) }
     go (inserted f c i) =
-        let a = accepted s f (q .numbers) (q .bytes) (subst (λ (x : Call). orElse (inputRefusal x) (roomRefusal s x (q .numbers) (q .bytes)) ≡ none) c e) in
+        let a = accepted s f (q .form) (q .numbers) (q .bytes) (subst (λ (x : Call). orElse (inputRefusal x) (roomRefusal s x (q .form) (q .numbers) (q .bytes)) ≡ none) c e) in
         subst Entries (sym i) (record { entries = rw (insert-length (fresh f) (s .entries)) (a .1); narrow = insert-each _ (fresh f) (s .entries) (a .0) (h .narrow) })
 
 -- ---- guards
@@ -137,26 +137,26 @@ module _ (g : Guard) where
       go true p q = let l = put-replaces gs q in omega arith
       go false p q = let l = put-length gs in let m = leb-false 64 (length gs) p in omega arith
 
-has-room : (s : Store) (g : Guard) (numbers bytes : ℕ) → orElse (inputRefusal (guard g)) (roomRefusal s (guard g) numbers bytes) ≡ none →
+has-room : (s : Store) (g : Guard) (form : RowForm) (numbers bytes : ℕ) → orElse (inputRefusal (guard g)) (roomRefusal s (guard g) form numbers bytes) ≡ none →
     noRoomFor (g .hash) (s .guards) ≡ false
 unfolding orElse roomRefusal when
-has-room s g numbers bytes = go (inputRefusal (guard g)) (noRoomFor (g .hash) (s .guards))
+has-room s g form numbers bytes = go (inputRefusal (guard g)) (noRoomFor (g .hash) (s .guards))
   where
     go : (o : Option ℕ) (b : Bool) → orElse o (when b 8) ≡ none → b ≡ false
     go (some n) b e = absurd (Option·none-ne-some n (sym e))
     go none true e = absurd (Option·none-ne-some 8 (sym e))
     go none false e = refl
 
-effect-guards : (s : Store) (c : Call) (numbers bytes : ℕ) → orElse (inputRefusal c) (roomRefusal s c numbers bytes) ≡ none →
+effect-guards : (s : Store) (c : Call) (form : RowForm) (numbers bytes : ℕ) → orElse (inputRefusal c) (roomRefusal s c form numbers bytes) ≡ none →
     Guards (s .guards) → Guards (effect s c .0 .guards)
 unfolding effect walked
-effect-guards s (push f) numbers bytes e h = h
-effect-guards s (poll a head known content) numbers bytes e h = walk-guards _ (s .entries) (s .guards) h
-effect-guards s (guard g) numbers bytes e h = put-guards g (s .guards) (has-room s g numbers bytes e) h
-effect-guards s (enterTentative x c) numbers bytes e h = drop-if (anyEnters x (s .entries)) x (s .guards) h
-effect-guards s (checkReorg b canonical) numbers bytes e h = walk-guards _ (s .entries) (s .guards) h
-effect-guards s (checkFinalized n) numbers bytes e h = walk-guards _ (s .entries) (s .guards) h
-effect-guards s (evictSender a) numbers bytes e h = walk-guards _ (s .entries) (s .guards) h
+effect-guards s (push f) form numbers bytes e h = h
+effect-guards s (poll a head known content) form numbers bytes e h = walk-guards _ (s .entries) (s .guards) h
+effect-guards s (guard g) form numbers bytes e h = put-guards g (s .guards) (has-room s g form numbers bytes e) h
+effect-guards s (enterTentative x c) form numbers bytes e h = drop-if (anyEnters x (s .entries)) x (s .guards) h
+effect-guards s (checkReorg b canonical) form numbers bytes e h = walk-guards _ (s .entries) (s .guards) h
+effect-guards s (checkFinalized n) form numbers bytes e h = walk-guards _ (s .entries) (s .guards) h
+effect-guards s (evictSender a) form numbers bytes e h = walk-guards _ (s .entries) (s .guards) h
 
 -- ---- runs
 
@@ -172,7 +172,7 @@ step-limits s q h = go (refusal s q) refl
     go (some n) e = h
     go none e = record {
       ofEntries = effect-entries s q e (h .ofEntries);
-      ofGuards = effect-guards s (q .call) (q .numbers) (q .bytes) e (h .ofGuards);
+      ofGuards = effect-guards s (q .call) (q .form) (q .numbers) (q .bytes) e (h .ofGuards);
     }
 
 run-limits : (s : Store) (qs : List Request) → Limits s → Limits (run s qs)

@@ -6,8 +6,8 @@ use mathlib.Core.List.{List, [], _∷_}
 use mathlib.Core.Option.{Option, none, some, Option·some-injective, Option·none-ne-some}
 use Rattle.lists.specs.Lists.{isIn}
 use Rattle.lists.proofs.ByteOrder.{clash}
-use Rattle.frames.specs.Store.{Store, Call, push, poll, guard, enterTentative, checkReorg, checkFinalized, evictSender, when, orElse, inputRefusal, roomRefusal, refusal, unless, step}
-use Rattle.reading.specs.Reading.{blocksRefusal, sendersRefusal, gapRefusal}
+use Rattle.store_rules.specs.Store.{Store, RowForm, Call, push, poll, guard, enterTentative, checkReorg, checkFinalized, evictSender, when, orElse, inputRefusal, roomRefusal, refusal, unless, step}
+use Rattle.queries.specs.Queries.{blocksRefusal, sendersRefusal, gapRefusal}
 use Rattle.store_laws.specs.Refusals.{placeNumbers, RefusedByPlace, RefusedByInputs, ReadingRefused, RefusedChangesNothing}
 
 -- a refusal, if there is one, is among these numbers
@@ -40,26 +40,26 @@ input-among (evictSender a) = tt
 aboutRoom : List ℕ
 aboutRoom = 2 ∷ 5 ∷ 8 ∷ []
 
-room-among : (s : Store) (c : Call) (numbers bytes : ℕ) → Among (placeNumbers c) (roomRefusal s c numbers bytes) × Among aboutRoom (roomRefusal s c numbers bytes)
+room-among : (s : Store) (c : Call) (form : RowForm) (numbers bytes : ℕ) → Among (placeNumbers c) (roomRefusal s c form numbers bytes) × Among aboutRoom (roomRefusal s c form numbers bytes)
 unfolding roomRefusal placeNumbers isIn aboutRoom
-room-among s (push f) numbers bytes = (among-when _ _ 2 refl, among-when _ _ 2 refl)
-room-among s (poll a head known content) numbers bytes = (among-when _ _ 5 refl, among-when _ _ 5 refl)
-room-among s (guard g) numbers bytes = (among-when _ _ 8 refl, among-when _ _ 8 refl)
-room-among s (enterTentative h c) numbers bytes = (tt, tt)
-room-among s (checkReorg b canonical) numbers bytes = (among-when _ _ 5 refl, among-when _ _ 5 refl)
-room-among s (checkFinalized n) numbers bytes = (among-when _ _ 5 refl, among-when _ _ 5 refl)
-room-among s (evictSender a) numbers bytes = (among-when _ _ 5 refl, among-when _ _ 5 refl)
+room-among s (push f) form numbers bytes = (among-when _ _ 2 refl, among-when _ _ 2 refl)
+room-among s (poll a head known content) form numbers bytes = (among-when _ _ 5 refl, among-when _ _ 5 refl)
+room-among s (guard g) form numbers bytes = (among-when _ _ 8 refl, among-when _ _ 8 refl)
+room-among s (enterTentative h c) form numbers bytes = (tt, tt)
+room-among s (checkReorg b canonical) form numbers bytes = (among-when _ _ 5 refl, among-when _ _ 5 refl)
+room-among s (checkFinalized n) form numbers bytes = (among-when _ _ 5 refl, among-when _ _ 5 refl)
+room-among s (evictSender a) form numbers bytes = (among-when _ _ 5 refl, among-when _ _ 5 refl)
 
 pub refused-by-place : RefusedByPlace
 unfolding refusal
 refused-by-place s q n e =
-    subst (Among (placeNumbers (q .call))) e (among-orElse _ _ _ (input-among (q .call)) (room-among s (q .call) (q .numbers) (q .bytes) .0))
+    subst (Among (placeNumbers (q .call))) e (among-orElse _ _ _ (input-among (q .call)) (room-among s (q .call) (q .form) (q .numbers) (q .bytes) .0))
 
 pub refused-by-inputs : RefusedByInputs
 unfolding refusal orElse aboutRoom
-refused-by-inputs s t q n = go (inputRefusal (q .call)) (roomRefusal s (q .call) (q .numbers) (q .bytes)) (room-among s (q .call) (q .numbers) (q .bytes) .1)
+refused-by-inputs s t q n = go (inputRefusal (q .call)) (roomRefusal s (q .call) (q .form) (q .numbers) (q .bytes)) (room-among s (q .call) (q .form) (q .numbers) (q .bytes) .1)
   where
-    go : (i r : Option ℕ) → Among aboutRoom r → orElse i r ≡ some n → isIn n aboutRoom ≡ false → orElse i (roomRefusal t (q .call) (q .numbers) (q .bytes)) ≡ some n
+    go : (i r : Option ℕ) → Among aboutRoom r → orElse i r ≡ some n → isIn n aboutRoom ≡ false → orElse i (roomRefusal t (q .call) (q .form) (q .numbers) (q .bytes)) ≡ some n
     go (some m) r a e f = e
     go none r a e f = clash (subst (Among aboutRoom) e a) f
 

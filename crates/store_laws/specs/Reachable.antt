@@ -7,10 +7,10 @@ use lib.Dec.{leb, ltb}
 use lib.ListN.{length}
 use Rattle.lists.specs.Bytes.{eqBytes}
 use Rattle.lists.specs.Lists.{Each, isIn}
-use Rattle.frames.specs.Frames.{Frame, Guard}
-use Rattle.frames.specs.Poll.{numbersFrom, gap}
+use Rattle.store_rules.specs.Frames.{Frame, Guard}
+use Rattle.store_rules.specs.Poll.{numbersFrom, gap}
 use Rattle.store_laws.specs.Pairs.{Pairwise}
-use Rattle.frames.specs.Store.{Store, empty, Sorted, Request, wideGap, run}
+use Rattle.store_rules.specs.Store.{Store, empty, Sorted, Request, wideGap, run}
 
 pub record Reachable (s : Store) : Type 0 where
   -- in walk order

@@ -6,8 +6,8 @@ use mathlib.Core.List.{List, [], _∷_}
 use mathlib.Core.Option.{some}
 use Rattle.lists.specs.Bytes.{Bytes}
 use Rattle.lists.specs.Lists.{isIn}
-use Rattle.frames.specs.Store.{Store, Call, push, poll, guard, enterTentative, checkReorg, checkFinalized, evictSender, Request, refused, refusal, step}
-use Rattle.reading.specs.Reading.{blocksRefusal, sendersRefusal, gapRefusal}
+use Rattle.store_rules.specs.Store.{Store, Call, push, poll, guard, enterTentative, checkReorg, checkFinalized, evictSender, Request, refused, refusal, step}
+use Rattle.queries.specs.Queries.{blocksRefusal, sendersRefusal, gapRefusal}
 
 -- document 01's table: the numbers of a call's place
 unfoldable pub placeNumbers : Call → List ℕ

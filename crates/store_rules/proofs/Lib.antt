@@ -1,0 +1,5 @@
+pub mod InPlace
+pub mod Matches
+pub mod PollCases
+pub mod Seen
+pub mod Walking
