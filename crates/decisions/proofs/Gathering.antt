@@ -1,0 +1,119 @@
+-- The predecessors of a frame, gathered one by one.
+use Prim.Native.Nat.{ℕ, zero, suc, _+_, _-_, _≤_, _<_}
+use native.Mathlib.Nat.{add-zero, add-suc, suc-add}
+use native.Mathlib.Omega.{arith}
+use mathlib.Core.Path.{_≡_, refl, sym, ap, _∙_}
+use mathlib.Core.Bool.{Bool, true, false, not, cond}
+use mathlib.Core.List.{List, [], _∷_, _++_, append-nil}
+use lib.ListN.{length, take, set, length-set, length-append, take-append-drop}
+use lib.Seq.{take-at}
+use lib.Dec.{leb}
+use borrow.Author.Tests.{le-leb, lt-leb}
+use Rattle.lists.specs.Lists.{keep, isEmpty, isIn, writtenAt}
+use Rattle.lists.proofs.Writing.{one-at, at-behind}
+use Rattle.store_rules.specs.Poll.{numbersFrom}
+
+-- ---- numbers, from the front
+
+numbers-more : (n i : ℕ) → numbersFrom n (i + 1) ≡ numbersFrom n i ++ ((n + i) ∷ [])
+unfolding numbersFrom
+numbers-more n zero = rw (add-zero)
+numbers-more n (suc i) = rw (suc-add) (ap {B = List ℕ} (λ r. n ∷ r) (numbers-more (suc n) i ∙ rw (suc-add, add-suc)))
+
+module _ (p : ℕ → Bool) where
+  keep-append : (a b : List ℕ) → keep p (a ++ b) ≡ keep p a ++ keep p b
+  unfolding keep
+  keep-append [] b = refl
+  keep-append (x ∷ xs) b = by-test (p x) (keep-append xs b)
+    where
+      by-test : (t : Bool) → keep p (xs ++ b) ≡ keep p xs ++ keep p b → cond t (x ∷ keep p (xs ++ b)) (keep p (xs ++ b)) ≡ cond t (x ∷ keep p xs) (keep p xs) ++ keep p b
+      by-test true h = ap {B = List ℕ} (λ r. x ∷ r) h
+      by-test false h = h
+
+  -- one more that passes the test, or does not
+  pub keep-hit : (l : List ℕ) (x : ℕ) → p x ≡ true → keep p (l ++ (x ∷ [])) ≡ keep p l ++ (x ∷ [])
+  unfolding keep
+  keep-hit l x t = rw (keep-append, t)
+
+  pub keep-miss : (l : List ℕ) (x : ℕ) → p x ≡ false → keep p (l ++ (x ∷ [])) ≡ keep p l
+  unfolding keep
+  keep-miss l x t = rw (keep-append, t, append-nil)
+
+-- of so many numbers those that are at least the head
+abbrev pub predsOf : ℕ → ℕ → ℕ → List ℕ
+predsOf head n i = keep (λ k. leb head k) (numbersFrom n i)
+
+module _ (head n i : ℕ) where
+  pub pred-more : head ≤ n + i → predsOf head n (i + 1) ≡ predsOf head n i ++ ((n + i) ∷ [])
+  pred-more h = rw (numbers-more n i) (keep-hit (λ k. leb head k) (numbersFrom n i) (n + i) (le-leb head (n + i) h))
+
+  pub pred-same : n + i < head → predsOf head n (i + 1) ≡ predsOf head n i
+  pred-same h = rw (numbers-more n i) (keep-miss (λ k. leb head k) (numbersFrom n i) (n + i) (lt-leb head (n + i) h))
+
+-- ---- a list written to a place of an array, one number after another
+
+-- after i turns `count` numbers, those of l, stand in the array from the place on
+pub record Gathers (at size : ℕ) (base out : List ℕ) (count i : ℕ) (l : List ℕ) : Type 0 where
+  pub few : count ≡ length l
+  pub within : count ≤ i
+  pub wide : length base ≡ size
+  pub whole : length out ≡ size
+  pub holds : out ≡ writtenAt at l base
+
+pub gather-none : (at size : ℕ) (base : List ℕ) → length base ≡ size → Gathers at size base base 0 0 []
+gather-none at size base w = record { few = refl; within = omega arith; wide = w; whole = w; holds = sym (take-append-drop at base) }
+
+module _ (at size : ℕ) (base out : List ℕ) (count i : ℕ) (l : List ℕ) (g : Gathers at size base out count i l) where
+  pub gather-hit : (x place : ℕ) → place ≡ at + count → at + count < size → Gathers at size base (set out place x) (count + 1) (i + 1) (l ++ (x ∷ []))
+  gather-hit x place p h =
+      let e : place ≡ at + length l = omega (arith, g .few) in
+      let b : at + length l < length (writtenAt at l base) = rw (← g .holds) (omega (arith, g .whole)) in
+      record {
+        few = simp length-append (omega (arith, g .few));
+        within = omega (arith, g .within);
+        wide = g .wide;
+        whole = length-set out place x ∙ g .whole;
+        holds = rw (e, g .holds) (one-at (writtenAt at l base) (at + length l) x b ∙ at-behind at l (x ∷ []) base (omega (arith, g .wide)));
+      }
+
+  pub gather-miss : Gathers at size base out count (i + 1) l
+  gather-miss = record { few = g .few; within = omega (arith, g .within); wide = g .wide; whole = g .whole; holds = g .holds }
+
+-- the front of an array that was filled from its start on
+pub gathered : (size : ℕ) (base out : List ℕ) (count i : ℕ) (l : List ℕ) → Gathers 0 size base out count i l → take count out ≡ l
+gathered size base out count i l g = rw (g .holds) (take-at l _ count (sym (g .few)))
+
+-- ---- whether any predecessor is unknown
+
+-- of these numbers the predecessors that are unknown
+abbrev pub missingIn : ℕ → List ℕ → List ℕ → List ℕ
+missingIn head known l = keep (λ k. not (isIn k known)) (keep (λ k. leb head k) l)
+
+rest-on : (n m i : ℕ) → i < m → numbersFrom (n + i) (m - i) ≡ (n + i) ∷ numbersFrom (n + (i + 1)) (m - (i + 1))
+unfolding numbersFrom
+rest-on n m i h =
+    let k : m - i ≡ suc (m - (i + 1)) = omega arith in
+    let s : suc (n + i) ≡ n + (i + 1) = omega arith in
+    rw k (ap (λ (j : ℕ). (n + i) ∷ numbersFrom j (m - (i + 1))) s)
+
+-- a turn of the search among the m numbers from n on
+module _ (head : ℕ) (known : List ℕ) (n m i : ℕ) (b : i < m) (so : isEmpty (missingIn head known (numbersFrom n m)) ≡ isEmpty (missingIn head known (numbersFrom (n + i) (m - i)))) where
+  pub found-unknown : head ≤ n + i → isIn (n + i) known ≡ false → isEmpty (missingIn head known (numbersFrom n m)) ≡ false
+  unfolding keep isEmpty
+  found-unknown h t = so ∙ rw (rest-on n m i b, le-leb head (n + i) h, t)
+
+  pub passed-known : head ≤ n + i → isIn (n + i) known ≡ true →
+      isEmpty (missingIn head known (numbersFrom n m)) ≡ isEmpty (missingIn head known (numbersFrom (n + (i + 1)) (m - (i + 1))))
+  unfolding keep
+  passed-known h t = so ∙ rw (rest-on n m i b, le-leb head (n + i) h, t)
+
+  pub passed-below : n + i < head → isEmpty (missingIn head known (numbersFrom n m)) ≡ isEmpty (missingIn head known (numbersFrom (n + (i + 1)) (m - (i + 1))))
+  unfolding keep
+  passed-below h = so ∙ rw (rest-on n m i b, lt-leb head (n + i) h)
+
+pub none-unknown : (head : ℕ) (known : List ℕ) (n m i : ℕ) → m ≤ i →
+    isEmpty (missingIn head known (numbersFrom n m)) ≡ isEmpty (missingIn head known (numbersFrom (n + i) (m - i))) → isEmpty (missingIn head known (numbersFrom n m)) ≡ true
+unfolding keep isEmpty numbersFrom
+none-unknown head known n m i h so =
+    let z : m - i ≡ 0 = omega arith in
+    so ∙ rw z

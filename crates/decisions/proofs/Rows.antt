@@ -1,0 +1,105 @@
+-- Rows: the numbers of one, and how many a poll gives.
+use Prim.Native.Nat.{ℕ, zero, suc, _-_, _≤_, min}
+use native.Mathlib.Omega.{arith}
+use mathlib.Core.Path.{_≡_, refl, ap}
+use mathlib.Core.Bool.{Bool, true, false, cond}
+use mathlib.Core.List.{List, [], _∷_, _++_}
+use mathlib.Core.Option.{Option}
+use lib.Dec.{leb}
+use lib.ListN.{length, set, replicate, length-append, length-drop}
+use Rattle.lists.specs.Bytes.{Bytes, eqBytes}
+use Rattle.lists.specs.Lists.{keep, written, writtenAt}
+use Rattle.lists.proofs.Elements.{length-keep}
+use Rattle.store_rules.specs.Frames.{Frame, Entry, Guard, Row, Visit}
+use Rattle.store_rules.specs.Poll.{Content, numbersFrom, gap, predecessors, unknown, guardMatches, stay, leave, row, pollRule}
+use Rattle.store_rules.specs.Rules.{onlyOf}
+use Rattle.store_rules.specs.Store.{long, guardOf, dropGuard, walk, entriesOf}
+use Rattle.store_rules.specs.Answers.{decisionNumber, rowNumbers}
+use Rattle.store_rules.proofs.PollCases.{PollCase, silent, consumed, holds, hold, waits, heldBack, rescued, poll-case}
+use Rattle.decisions.specs.Courses.{decisionOf, noncesOf, isListed, rowOf}
+use Rattle.decisions.specs.declared.poll.Telling.{Telling}
+use Rattle.decisions.specs.declared.poll.Telling.the-variants.{Consumed, Hold, Waits, HeldBack, Rescued}
+
+-- ---- the nonces of a row
+
+keep-all : (l : List ℕ) → keep (λ n. true) l ≡ l
+unfolding keep
+keep-all [] = refl
+keep-all (x ∷ xs) = ap {B = List ℕ} (λ r. x ∷ r) (keep-all xs)
+
+keep-nothing : (l : List ℕ) → keep (λ n. false) l ≡ []
+unfolding keep
+keep-nothing [] = refl
+keep-nothing (x ∷ xs) = keep-nothing xs
+
+pub nonces-are : (t : Telling) (head : ℕ) (known : List ℕ) (f : Frame) → keep (isListed t known) (predecessors head f) ≡ noncesOf t head known f
+unfolding unknown
+nonces-are Consumed head known f = keep-nothing (predecessors head f)
+nonces-are Hold head known f = refl
+nonces-are Waits head known f = refl
+nonces-are HeldBack head known f = keep-all (predecessors head f)
+nonces-are Rescued head known f = keep-all (predecessors head f)
+
+length-numbers : (n count : ℕ) → length (numbersFrom n count) ≡ count
+unfolding numbersFrom
+length-numbers n zero = refl
+length-numbers n (suc count) = ap suc (length-numbers (suc n) count)
+
+few-preds : (head : ℕ) (f : Frame) → length (predecessors head f) ≤ 16
+unfolding predecessors gap
+few-preds head f = omega (arith, length-keep (λ n. leb head n) (numbersFrom (f .expected) (min 16 (f .claim - f .expected))), length-numbers (f .expected) (min 16 (f .claim - f .expected)))
+
+few-nonces : (t : Telling) (head : ℕ) (known : List ℕ) (f : Frame) → length (noncesOf t head known f) ≤ 16
+few-nonces t head known f = rw (← nonces-are t head known f) (omega (arith, length-keep (isListed t known) (predecessors head f), few-preds head f))
+
+-- ---- the numbers of a row
+
+pub row-width : (t : Telling) (head : ℕ) (known : List ℕ) (f : Frame) → length (rowNumbers long (rowOf t head known f)) ≡ 19
+unfolding rowNumbers
+row-width t head known f =
+    let l : List ℕ = noncesOf t head known f in
+    let n : length (written l (replicate 16 0)) ≡ 16 = simp (length-append, length-drop) (omega (arith, few-nonces t head known f)) in
+    omega arith
+
+-- a row whose ticket and decision are written, with its nonces, and then with their count
+pub row-done : (t : Telling) (head : ℕ) (known : List ℕ) (f : Frame) (says count : ℕ) (l out : List ℕ) →
+    out ≡ writtenAt 3 l (set (set (replicate 19 0) 0 (f .ticket)) 1 says) → says ≡ decisionNumber (decisionOf t) → count ≡ length l →
+    l ≡ noncesOf t head known f → set out 2 count ≡ rowNumbers long (rowOf t head known f)
+unfolding rowNumbers
+row-done t head known f says count l out o d c n = rw (o, d, c, n)
+
+-- ---- a poll gives at most one row for each entry of the sender
+
+one-row : (head : ℕ) (known : List ℕ) (guarded : Bool) (e : Entry) (v : Visit Row) → PollCase head known guarded e v → length (v .lists) ≤ 1
+unfolding stay leave row
+one-row head known guarded e v (silent t) = omega arith
+one-row head known guarded e v (consumed t y) = omega arith
+one-row head known guarded e v (holds t y x z) = omega arith
+one-row head known guarded e v (hold t y x z) = omega arith
+one-row head known guarded e v (waits t y x u) = omega arith
+one-row head known guarded e v (heldBack t y x u g) = omega arith
+one-row head known guarded e v (rescued t y x u g) = omega arith
+
+polled-once : (head : ℕ) (known : List ℕ) (content : Option Content) (g : Option Guard) (e : Entry) → length (pollRule head known content g e .lists) ≤ 1
+unfolding pollRule
+polled-once head known content g e =
+    let m : Bool = guardMatches g (predecessors head (e .frame)) (e .frame .expected) content in
+    one-row head known m e _ (poll-case head known m e)
+
+pub few-rows : (sender : Bytes) (head : ℕ) (known : List ℕ) (content : Option Content) (es : List Entry) (gs : List Guard) →
+    length (walk (onlyOf sender (pollRule head known content)) es gs .listed) ≤ length (entriesOf sender es)
+unfolding walk onlyOf entriesOf keep stay
+few-rows sender head known content [] gs = omega arith
+few-rows sender head known content (e ∷ es) gs = go (eqBytes (e .frame .from) sender) (λ gs′. few-rows sender head known content es gs′)
+  where
+    go : (b : Bool) → ((gs′ : List Guard) → length (walk (onlyOf sender (pollRule head known content)) es gs′ .listed) ≤ length (keep (λ x. eqBytes (x .frame .from) sender) es)) →
+        length
+        (cond b (pollRule head known content (guardOf (e .frame .hash) gs) e) (stay (e .standing) []) .lists
+        ++ walk (onlyOf sender (pollRule head known content)) es
+        (cond (cond b (pollRule head known content (guardOf (e .frame .hash) gs) e) (stay (e .standing) []) .drops) (dropGuard (e .frame .hash) gs) gs)
+        .listed)
+        ≤ length (cond b (e ∷ keep (λ x. eqBytes (x .frame .from) sender) es) (keep (λ x. eqBytes (x .frame .from) sender) es))
+    go true ih =
+        let v : Visit Row = pollRule head known content (guardOf (e .frame .hash) gs) e in
+        rw length-append (omega (arith, polled-once head known content (guardOf (e .frame .hash) gs) e, ih (cond (v .drops) (dropGuard (e .frame .hash) gs) gs)))
+    go false ih = ih gs
