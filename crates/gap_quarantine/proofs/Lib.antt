@@ -1,6 +1,9 @@
-pub mod Calls
-pub mod Entering
-pub mod GuardCall
-pub mod Listed
+pub mod Counting
+pub mod EnterSteps
+pub mod PassSteps
+pub mod PassTurns
 pub mod PollSteps
-pub mod Pushing
+pub mod PollTurns
+pub mod PushSteps
+pub mod RecordSteps
+pub mod Whole

@@ -1,22 +1,25 @@
 -- What the calls promise: each is its step.
 use Prim.Native.Nat.{ℕ}
 use mathlib.Core.Path.{_≡_}
-use mathlib.Core.List.{List}
+use mathlib.Core.Bool.{Bool, true, not}
+use mathlib.Core.List.{List, []}
 use lib.ListN.{length}
+use Rattle.lists.specs.Bytes.{Bytes, leBytes}
 use Rattle.lists.specs.Lists.{written}
 use Rattle.refusal.specs.Numbers.{refusalNumber}
 use Rattle.refusal.specs.declared.Refusal.{Refusal}
-use Rattle.frames.specs.Store.{Store, Call, Request, step}
-use Rattle.frames.specs.Answers.{Said, saysTotal, saysRows, saysRecorded, saysEntered, saysFrames, saysDead, saysRefused, said, numbersOf, bytesOf}
-use Rattle.frames.specs.View.{entriesSeen, guardsSeen}
+use Rattle.store_rules.specs.Store.{Store, Call, long, Request, step}
+use Rattle.store_rules.specs.Answers.{Said, saysTotal, saysRows, saysRecorded, saysEntered, saysFrames, saysDead, saysRefused, said, numbersOf, bytesOf}
+use Rattle.store_rules.specs.View.{Bodies, bodiesOf, heldView}
+use Rattle.store_rules.specs.declared.Entry.{Entry}
+use Rattle.store_rules.specs.declared.Held.{Held}
+use Rattle.decisions.specs.declared.selection.Selecting.{Selecting}
+use Rattle.decisions.specs.declared.selection.Selecting.the-variants.{OfSender, Reorganised, Finalized}
 use Rattle.gap_quarantine.specs.declared.Quarantine.{Quarantine}
 use Rattle.gap_quarantine.specs.declared.Answer.{Answer}
 use Rattle.gap_quarantine.specs.declared.Answer.the-variants.{Total, Rows, Recorded, Entered, Frames, Dead, Refused}
 use Rattle.gap_quarantine.specs.declared.Answered.{Answered}
-
--- the store as the definitions see it
-abbrev pub viewOf : Quarantine → Store
-viewOf q = record { entries = entriesSeen (q .pending); guards = guardsSeen (q .«repark_guard») }
+use Rattle.gap_quarantine.specs.declared.Outcome.{Outcome}
 
 -- what a coded answer says
 abbrev pub heard : Answer → Said
@@ -30,12 +33,57 @@ heard (Refused x) = saysRefused (refusalNumber x)
 
 -- a call that is lent these slices
 abbrev pub asked : Call → List ℕ → List ℕ → Request
-asked call numbers bytes = record { call = call; numbers = length numbers; bytes = length bytes }
+asked call numbers bytes = record { call = call; form = long; numbers = length numbers; bytes = length bytes }
 
--- A call is its step: the store, the answer and the lent slices, whole; a refusal returns the very store.
-pub record Performs (q : Quarantine) (call : Call) (numbers bytes : List ℕ) (r : Answered) (numbers′ bytes′ : List ℕ) : Type 0 where
-  pub store : viewOf (r .store) ≡ step (viewOf q) (asked call numbers bytes) .0
-  pub answer : heard (r .answer) ≡ said (step (viewOf q) (asked call numbers bytes) .1)
-  pub numbersAfter : numbers′ ≡ written (numbersOf (step (viewOf q) (asked call numbers bytes) .1)) numbers
-  pub bytesAfter : bytes′ ≡ written (bytesOf (step (viewOf q) (asked call numbers bytes) .1)) bytes
-  pub kept : (x : Refusal) → r .answer ≡ Refused x → r .store ≡ q
+-- A call is its step: the store, the answer and the lent slices, whole; a refusal returns the very store. `view` says how the
+-- definitions see the store's value.
+pub record Steps {S : Type 0} (view : S → Store) (q : S) (call : Call) (numbers bytes : List ℕ) (a : Answer) (q′ : S) (numbers′ bytes′ : List ℕ) : Type 0 where
+  pub store : view q′ ≡ step (view q) (asked call numbers bytes) .0
+  pub answer : heard a ≡ said (step (view q) (asked call numbers bytes) .1)
+  pub numbersAfter : numbers′ ≡ written (numbersOf long (step (view q) (asked call numbers bytes) .1)) numbers
+  pub bytesAfter : bytes′ ≡ written (bytesOf (step (view q) (asked call numbers bytes) .1)) bytes
+  pub kept : (x : Refusal) → a ≡ Refused x → q′ ≡ q
+
+-- ---- the store as one value
+
+abbrev pub viewOf : Quarantine → Store
+viewOf q = heldView (bodiesOf (q .«guard_numbers») (q .«guard_contents»)) (q .held)
+
+abbrev pub Performs : Quarantine → Call → List ℕ → List ℕ → Answered → List ℕ → List ℕ → Type 0
+Performs q call numbers bytes r = Steps viewOf q call numbers bytes (r .answer) (r .store)
+
+-- ---- the held part
+
+-- with these bodies
+abbrev pub HeldPerforms : Bodies → Held → Call → List ℕ → List ℕ → Outcome → List ℕ → List ℕ → Type 0
+HeldPerforms bodies h call numbers bytes r = Steps (heldView bodies) h call numbers bytes (r .answer) (r .held)
+
+-- whatever the bodies are: the call neither reads nor writes them
+abbrev pub Always : Held → Call → List ℕ → List ℕ → Outcome → List ℕ → List ℕ → Type 0
+Always h call numbers bytes r numbers′ bytes′ = (bodies : Bodies) → HeldPerforms bodies h call numbers bytes r numbers′ bytes′
+
+-- the bodies are those that lie in the arrays, if content came; without content no body is read
+abbrev pub Lent : Bool → List ℕ → Bytes → Bodies → Type 0
+Lent content numbers contents bodies = content ≡ true → bodies ≡ bodiesOf numbers contents
+
+-- the held part and the lent bodies as one value
+abbrev pub joined : Held → List ℕ → Bytes → Quarantine
+joined h numbers contents = record { held = h; «guard_numbers» = numbers; «guard_contents» = contents }
+
+-- a call that is lent the bodies and changes them
+abbrev pub Writes : Held → List ℕ → Bytes → Call → Outcome → List ℕ → Bytes → Type 0
+Writes h numbers contents call r numbers′ contents′ =
+    Performs (joined h numbers contents) call [] [] (record { answer = r .answer; store = joined (r .held) numbers′ contents′ }) [] []
+
+-- ---- what a pass that listed so many answers
+
+abbrev pub answered : Selecting → ℕ → Answer
+answered OfSender n = Frames n
+answered Reorganised n = Frames n
+answered Finalized n = Dead n
+
+-- ---- where a push puts a frame
+
+-- the entry's address comes after this one
+abbrev pub isAfter : Bytes → Entry → Bool
+isAfter from e = not (leBytes (e .frame .from) from)

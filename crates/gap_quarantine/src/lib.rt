@@ -2,45 +2,56 @@
 //
 // A call that may change the store takes it by value and returns it beside its answer. What it lists goes to slices that the
 // caller lends. A refused call returns the store as it was and leaves the slices alone.
+//
+// The calls stand twice. The functions of this crate are calls on the held part alone (`Held`, 15 KB), which is changed in place;
+// the guards' bodies (43 KB) are lent to the two that need them, a poll with content and the guard call. The methods of
+// `Quarantine` are the same calls on the whole store as one value.
 
 ghost use mathlib.Core.Path.{_≡_};
 ghost use mathlib.Core.Bool.{true};
 ghost use mathlib.Core.List.{[]};
 ghost use mathlib.Core.Option.{none};
-ghost use Rattle.frames.specs.Frames.{reparked, unhydratable};
-ghost use Rattle.frames.specs.Store.{empty, push, poll, guard, enterTentative, evictSender, checkReorg, checkFinalized};
-ghost use Rattle.frames.specs.View.{consumedOf, frameOf, contentOf, hashOf};
+ghost use Rattle.store_rules.specs.Frames.{reparked, unhydratable};
+ghost use Rattle.store_rules.specs.Store.{empty, push, poll, guard, enterTentative, evictSender, checkReorg, checkFinalized};
+ghost use Rattle.store_rules.specs.View.{consumedOf, frameOf, kindOf, contentOf, hashOf};
 ghost use Rattle.gap_quarantine.specs.Contracts.{viewOf, Performs};
-ghost use Rattle.gap_quarantine.specs.declared.Answer.the-variants.{Refused};
 use refusal::Refusal;
 
-pub mod holding; // holding.rt: push, also on the held frames alone, and entering the tentative state
-mod listing; // listing.rt: lists written to lent slices
-mod poll; // poll.rt: a poll and its rows
+mod entering; // entering.rt: entering the tentative state
+mod parking; // parking.rt: push
+mod passing; // passing.rt: eviction, reorganisation and finality
+mod polling; // polling.rt: the polls
 mod reads; // reads.rt: the calls that only read
-mod recording; // recording.rt: the guard call
+mod recording; // recording.rt: the guard calls
 
-pub use frames::Entry;
-pub use frames::FrameState;
-pub use frames::Guards;
-pub use frames::HeldHead;
-pub use frames::NonceConsumed;
-pub use frames::ParkedFrame;
-pub use frames::Pending;
-pub use frames::RescueGuard;
-pub use frames::RescueKind;
-pub use frames::Slot;
-pub use frames::Slots;
-pub use reading::Boundary;
-pub use reading::HeldState;
-pub use reading::Listed;
-
-// ---- the store
-
-pub struct Quarantine {
-    pub pending: Pending,
-    pub repark_guard: Guards,
-}
+pub use entering::enter_tentative;
+pub use parking::push;
+pub use passing::check_finalized;
+pub use passing::check_reorg;
+pub use passing::evict_sender;
+pub use polling::poll;
+pub use polling::poll_with_content;
+pub use queries::Boundary;
+pub use queries::HeldState;
+pub use queries::Listed;
+pub use queries::expected_boundary;
+pub use queries::has_guard_for_sender;
+pub use queries::is_empty;
+pub use queries::len;
+pub use queries::pool_known_gap;
+pub use queries::senders;
+pub use queries::state;
+pub use queries::tentative_blocks;
+pub use queries::tentative_count;
+pub use recording::record_repark_guard_with_content;
+pub use recording::record_unhydratable_guard_with_content;
+pub use store_rules::Entry;
+pub use store_rules::FrameState;
+pub use store_rules::Held;
+pub use store_rules::HeldHead;
+pub use store_rules::NonceConsumed;
+pub use store_rules::ParkedFrame;
+pub use store_rules::RescueKind;
 
 // ---- answers
 
@@ -61,34 +72,50 @@ pub enum Answer {
     Refused(Refusal),
 }
 
+// An answer, and the held part after the call.
+pub struct Outcome {
+    pub answer: Answer,
+    pub held: Held,
+}
+
 // An answer, and the store after the call.
 pub struct Answered {
     pub answer: Answer,
     pub store: Quarantine,
 }
 
-// What a refused call returns: the store as it was.
-pub(crate) fn refused(store: Quarantine, why: Refusal) -> Answered
-    ensures { λ r. ⌜ r ≡ record { answer = Refused why; store = store } ⌝ }
-{
-    Answered {
-        answer: Answer::Refused(why),
-        store: store,
-    }
-}
+// ---- the store as one value
 
-// ---- the calls
+// The held part, and the bodies of the guards: 20 numbers and 512 bytes a guard, in the places of the labels.
+pub struct Quarantine {
+    pub held: Held,
+    pub guard_numbers: [u64; 1280],
+    pub guard_contents: [u8; 32768],
+}
 
 impl Quarantine {
     // The empty store.
     pub fn new() -> Quarantine
         ensures { λ r. ⌜ viewOf r ≡ empty ⌝ }
     {
-        let pending = Pending::new();
-        let guards = Guards::new();
+        let held = Held::new();
         Quarantine {
-            pending: pending,
-            repark_guard: guards,
+            held: held,
+            guard_numbers: [0u64; 1280],
+            guard_contents: [0u8; 32768],
+        }
+    }
+
+    // What a call on the held part makes of the store.
+    fn after(mut self, r: Outcome) -> Answered
+        ensures { λ a. ⌜ a ≡ record { answer = r .answer; store = record { held = r .held; «guard_numbers» = self .«guard_numbers»; «guard_contents» = self .«guard_contents» } } ⌝ }
+    {
+        let held = r.held;
+        let answer = r.answer;
+        self.held = held;
+        Answered {
+            answer: answer,
+            store: self,
         }
     }
 
@@ -96,36 +123,16 @@ impl Quarantine {
     pub fn push(self, frame: ParkedFrame) -> Answered
         ensures { λ r. ⌜ Performs self (push (frameOf frame)) [] [] r [] [] ⌝ }
     {
-        let pending = self.pending;
-        let guards = self.repark_guard;
-        let pushed = holding::push(pending, frame);
-        let after = pushed.pending;
-        let answer = pushed.answer;
-        Answered {
-            answer: answer,
-            store: Quarantine {
-                pending: after,
-                repark_guard: guards,
-            },
-        }
+        let held = self.held;
+        self.after(push(held, frame))
     }
 
     // Polls a sender's frames at this head; the rows go to the slice.
     pub fn poll(self, sender: [u8; 20], head: u64, known: &[u64], rows: &mut [u64]) -> Answered
         ensures { λ r. ⌜ Performs self (poll sender head (now (known .entry)) none) (now (rows .entry)) [] r (now (rows .exit)) [] ⌝ }
     {
-        let nonces = [0u64; 1];
-        let hashes = [0u8; 1];
-        poll::poll_inner(
-            self,
-            sender,
-            head,
-            known,
-            false,
-            &nonces[0..0],
-            &hashes[0..0],
-            rows,
-        )
+        let held = self.held;
+        self.after(poll(held, sender, head, known, rows))
     }
 
     // The same with the current content: pairs of a nonce and a hash of 32 bytes.
@@ -140,7 +147,56 @@ impl Quarantine {
     ) -> Answered
         ensures { λ r. ⌜ Performs self (poll sender head (now (known .entry)) (contentOf true (now (nonces .entry)) (now (hashes .entry)))) (now (rows .entry)) [] r (now (rows .exit)) [] ⌝ }
     {
-        poll::poll_inner(self, sender, head, known, true, nonces, hashes, rows)
+        let held = self.held;
+        let numbers = self.guard_numbers;
+        let contents = self.guard_contents;
+        self.after(poll_with_content(
+            held,
+            &numbers,
+            &contents,
+            sender,
+            head,
+            known,
+            nonces,
+            hashes,
+            rows,
+        ))
+    }
+
+    // Records a guard of this kind.
+    fn record_guard(
+        self,
+        kind: RescueKind,
+        hash: [u8; 32],
+        preds: &[u64],
+        contents: &[u8],
+    ) -> Answered
+        ensures { λ r. ⌜ Performs self
+            (guard (record { hash = hash; kind = kindOf kind; predecessors = now (preds .entry); contents = now (contents .entry) }))
+            [] [] r [] [] ⌝ }
+    {
+        let held = self.held;
+        let mut numbers = self.guard_numbers;
+        let mut bodies = self.guard_contents;
+        let r = recording::record_guard(
+            held,
+            &mut numbers,
+            &mut bodies,
+            kind,
+            hash,
+            preds,
+            contents,
+        );
+        let after = r.held;
+        let answer = r.answer;
+        Answered {
+            answer: answer,
+            store: Quarantine {
+                held: after,
+                guard_numbers: numbers,
+                guard_contents: bodies,
+            },
+        }
     }
 
     // Records that a rescue of this hash with these predecessors and contents leads back to this boundary.
@@ -155,24 +211,7 @@ impl Quarantine {
             (guard (record { hash = hash; kind = reparked boundary; predecessors = now (preds .entry); contents = now (contents .entry) }))
             [] [] r [] [] ⌝ }
     {
-        let pending = self.pending;
-        let guards = self.repark_guard;
-        let recorded = recording::record(
-            guards,
-            RescueKind::Reparked(boundary),
-            hash,
-            preds,
-            contents,
-        );
-        let after = recorded.guards;
-        let answer = recorded.answer;
-        Answered {
-            answer: answer,
-            store: Quarantine {
-                pending: pending,
-                repark_guard: after,
-            },
-        }
+        self.record_guard(RescueKind::Reparked(boundary), hash, preds, contents)
     }
 
     // Records that a rescue of this hash with these predecessors and contents cannot be rebuilt.
@@ -186,18 +225,7 @@ impl Quarantine {
             (guard (record { hash = hash; kind = unhydratable; predecessors = now (preds .entry); contents = now (contents .entry) }))
             [] [] r [] [] ⌝ }
     {
-        let pending = self.pending;
-        let guards = self.repark_guard;
-        let recorded = recording::record(guards, RescueKind::Unhydratable, hash, preds, contents);
-        let after = recorded.guards;
-        let answer = recorded.answer;
-        Answered {
-            answer: answer,
-            store: Quarantine {
-                pending: pending,
-                repark_guard: after,
-            },
-        }
+        self.record_guard(RescueKind::Unhydratable, hash, preds, contents)
     }
 
     // Makes the first tracked entry of a hash tentative, and drops the hash's guard; false if there is none.
@@ -210,33 +238,16 @@ impl Quarantine {
     ) -> Answered
         ensures { λ r. ⌜ Performs self (enterTentative hash (consumedOf consumed «block_hash» taker)) [] [] r [] [] ⌝ }
     {
-        holding::enter(self, hash, consumed, block_hash, taker)
+        let held = self.held;
+        self.after(enter_tentative(held, hash, consumed, block_hash, taker))
     }
 
     // Removes the entries of a sender, and lists their tickets.
     pub fn evict_sender(self, sender: [u8; 20], tickets: &mut [u64]) -> Answered
         ensures { λ r. ⌜ Performs self (evictSender sender) (now (tickets .entry)) [] r (now (tickets .exit)) [] ⌝ }
     {
-        let pending = self.pending;
-        let mut guards = self.repark_guard;
-        let slots = guards.slots;
-        let swept = passes::evict_pass(pending, slots, sender);
-        let count = swept.count;
-        if tickets.len() < count {
-            return refused(self, Refusal::ShortSlice);
-        }
-        let frames = swept.frames;
-        listing::write_tickets(frames, count, tickets);
-        let after = swept.pending;
-        let live = swept.slots;
-        guards.slots = live;
-        Answered {
-            answer: Answer::Frames(count),
-            store: Quarantine {
-                pending: after,
-                repark_guard: guards,
-            },
-        }
+        let held = self.held;
+        self.after(evict_sender(held, sender, tickets))
     }
 
     // Makes the tentative entries of a reorganised block tracked again, and lists their tickets.
@@ -249,52 +260,15 @@ impl Quarantine {
     ) -> Answered
         ensures { λ r. ⌜ Performs self (checkReorg block (hashOf «has_hash» hash)) (now (tickets .entry)) [] r (now (tickets .exit)) [] ⌝ }
     {
-        let pending = self.pending;
-        let mut guards = self.repark_guard;
-        let slots = guards.slots;
-        let swept = passes::reorg_pass(pending, slots, block, has_hash, hash);
-        let count = swept.count;
-        if tickets.len() < count {
-            return refused(self, Refusal::ShortSlice);
-        }
-        let frames = swept.frames;
-        listing::write_tickets(frames, count, tickets);
-        let after = swept.pending;
-        let live = swept.slots;
-        guards.slots = live;
-        Answered {
-            answer: Answer::Frames(count),
-            store: Quarantine {
-                pending: after,
-                repark_guard: guards,
-            },
-        }
+        let held = self.held;
+        self.after(check_reorg(held, block, has_hash, hash, tickets))
     }
 
     // Removes the tentative entries of blocks up to n, and lists ticket, block, kind, block hash and taker of each.
     pub fn check_finalized(self, n: u64, numbers: &mut [u64], bytes: &mut [u8]) -> Answered
         ensures { λ r. ⌜ Performs self (checkFinalized n) (now (numbers .entry)) (now (bytes .entry)) r (now (numbers .exit)) (now (bytes .exit)) ⌝ }
     {
-        let pending = self.pending;
-        let mut guards = self.repark_guard;
-        let slots = guards.slots;
-        let finished = passes::final_pass(pending, slots, n);
-        let count = finished.count;
-        if listing::lacks_room(numbers.len(), bytes.len(), count) {
-            return refused(self, Refusal::ShortSlice);
-        }
-        let dead = finished.dead;
-        listing::write_dead(dead, count, numbers);
-        listing::write_hashes(dead, count, bytes);
-        let after = finished.pending;
-        let live = finished.slots;
-        guards.slots = live;
-        Answered {
-            answer: Answer::Dead(count),
-            store: Quarantine {
-                pending: after,
-                repark_guard: guards,
-            },
-        }
+        let held = self.held;
+        self.after(check_finalized(held, n, numbers, bytes))
     }
 }

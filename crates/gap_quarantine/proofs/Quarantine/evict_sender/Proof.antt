@@ -1,36 +1,19 @@
-use mathlib.Core.List.{[]}
-use Rattle.gap_quarantine.proofs.Calls.{short-tickets, tickets-listed, evict-does, evict-free}
 use borrow.Author.Needs.{needs}
+use Rattle.gap_quarantine.proofs.Whole.{whole}
 use Rattle.gap_quarantine.proofs.Quarantine.evict_sender.Statement.{statement}
 use Rattle.gap_quarantine.proofs.Quarantine.evict_sender.Tie as tie
 
-evict-pass-requires : tie.Need-evict-pass-requires
-evict-pass-requires c κs = search needs
+evict-sender-requires : tie.Need-evict-sender-requires
+evict-sender-requires c κs = search needs
 
-refused-requires : tie.Need-refused-requires
-refused-requires c κs = search needs
-
-returns : tie.Need-returns
-returns c =
-    rw (c .refused .ensures)
-    (short-tickets ((c .before .before .before .before .before .before .before) .args .self) _ _ ((c .before .before) .evict-pass .result) ((c .before .before) .evict-pass .ensures ((c .before .before .before .before .before .before .before) .args .self .«repark_guard» .len) ((c .before .before .before .before .before .before .before) .args .self .«repark_guard» .guards)) (evict-does _) (evict-free _) ((c .before .before .before .before .before .before .before) .args .tickets .now) ((c .before) .if1 .taken))
-
-write-tickets-requires : tie.Need-write-tickets-requires
-write-tickets-requires c κs = ((c .before .before .before) .evict-pass .ensures 0 [] .fits, (c .before .before) .if1 .left)
+after-requires : tie.Need-after-requires
+after-requires c κs = search needs
 
 same-length : tie.Need-same-length
 same-length c = search needs
 
-returns-2 : tie.Need-returns-2
-returns-2 c = tickets-listed ((c .before .before .before .before .before .before .before .before .before .before .before .before .before) .args .self) _ _ ((c .before .before .before .before .before .before .before .before) .evict-pass .result) ((c .before .before .before .before .before .before .before .before) .evict-pass .ensures ((c .before .before .before .before .before .before .before .before .before .before .before .before .before) .args .self .«repark_guard» .len) ((c .before .before .before .before .before .before .before .before .before .before .before .before .before) .args .self .«repark_guard» .guards)) (evict-does _) (evict-free _) ((c .before .before .before .before .before .before .before .before .before .before .before .before .before) .args .tickets .now) _ ((c .before .before .before .before .before .before .before) .if1 .left) ((c .before .before .before .before) .write-tickets .ensures)
+returns : tie.Need-returns
+returns c = whole _ _ _ _ _ _ _ _ ((c .before .before .before) .evict-sender .ensures _) (c .after .ensures)
 
 pub evict-sender-spec : {M : Type 1} → statement M
-evict-sender-spec =
-    tie.close
-    (tie.spec
-    evict-pass-requires
-    refused-requires
-    returns
-    write-tickets-requires
-    same-length
-    returns-2)
+evict-sender-spec = tie.close (tie.spec evict-sender-requires after-requires same-length returns)

@@ -1,4 +1,3 @@
-use Rattle.frames.specs.View.{guardsSeen}
 use borrow.Author.Needs.{needs}
 use Rattle.gap_quarantine.proofs.Quarantine.expected_boundary.Statement.{statement}
 use Rattle.gap_quarantine.proofs.Quarantine.expected_boundary.Tie as tie
@@ -7,7 +6,7 @@ expected-boundary-requires : tie.Need-expected-boundary-requires
 expected-boundary-requires c κs = search needs
 
 returns : tie.Need-returns
-returns c = c .expected-boundary .ensures (guardsSeen ((c .before .before) .args .self .«repark_guard»))
+returns c = c .expected-boundary .ensures _
 
 pub expected-boundary-spec : {M : Type 1} → statement M
 expected-boundary-spec = tie.close (tie.spec expected-boundary-requires returns)

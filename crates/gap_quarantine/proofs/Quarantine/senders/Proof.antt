@@ -1,4 +1,3 @@
-use Rattle.frames.specs.View.{guardsSeen}
 use borrow.Author.Needs.{needs}
 use Rattle.gap_quarantine.proofs.Quarantine.senders.Statement.{statement}
 use Rattle.gap_quarantine.proofs.Quarantine.senders.Tie as tie
@@ -10,7 +9,7 @@ same-length : tie.Need-same-length
 same-length c = search needs
 
 returns : tie.Need-returns
-returns c = (c .before .before) .senders .ensures (guardsSeen ((c .before .before .before .before .before .before) .args .self .«repark_guard»))
+returns c = (c .before .before) .senders .ensures _
 
 pub senders-spec : {M : Type 1} → statement M
 senders-spec = tie.close (tie.spec senders-requires same-length returns)

@@ -1,4 +1,3 @@
-use Rattle.frames.specs.View.{guardsSeen}
 use borrow.Author.Needs.{needs}
 use Rattle.gap_quarantine.proofs.Quarantine.tentative_blocks.Statement.{statement}
 use Rattle.gap_quarantine.proofs.Quarantine.tentative_blocks.Tie as tie
@@ -13,7 +12,7 @@ same-length-2 : tie.Need-same-length-2
 same-length-2 c = search needs
 
 returns : tie.Need-returns
-returns c = (c .before .before .before .before) .tentative-blocks .ensures (guardsSeen ((c .before .before .before .before .before .before .before .before .before .before) .args .self .«repark_guard»))
+returns c = (c .before .before .before .before) .tentative-blocks .ensures _
 
 pub tentative-blocks-spec : {M : Type 1} → statement M
 tentative-blocks-spec =

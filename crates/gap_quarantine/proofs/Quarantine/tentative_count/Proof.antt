@@ -1,4 +1,3 @@
-use Rattle.frames.specs.View.{guardsSeen}
 use borrow.Author.Needs.{needs}
 use Rattle.gap_quarantine.proofs.Quarantine.tentative_count.Statement.{statement}
 use Rattle.gap_quarantine.proofs.Quarantine.tentative_count.Tie as tie
@@ -7,7 +6,7 @@ tentative-count-requires : tie.Need-tentative-count-requires
 tentative-count-requires c κs = search needs
 
 returns : tie.Need-returns
-returns c = c .tentative-count .ensures (guardsSeen ((c .before .before) .args .self .«repark_guard»))
+returns c = c .tentative-count .ensures _
 
 pub tentative-count-spec : {M : Type 1} → statement M
 tentative-count-spec = tie.close (tie.spec tentative-count-requires returns)

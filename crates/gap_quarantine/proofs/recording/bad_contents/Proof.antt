@@ -1,5 +1,5 @@
 use borrow.Author.Tests.{eq-eqb, ne-eqb}
-use Rattle.frames.specs.Store.{badContents}
+use Rattle.store_rules.specs.Store.{badContents}
 use Rattle.gap_quarantine.proofs.recording.bad_contents.Statement.{statement}
 use Rattle.gap_quarantine.proofs.recording.bad_contents.Tie as tie
 
