@@ -6,13 +6,13 @@ use native.Mathlib.Omega.{arith}
 use lib.Dec.{ltb}
 use Rattle.lists.specs.Bytes as bytes
 use Rattle.lists.specs.Lists as lists
-use Rattle.frames.specs.Frames as frames
-use Rattle.frames.specs.Poll as polls
-use Rattle.frames.specs.Rules as rules
-use Rattle.frames.specs.Store as stores
-use Rattle.frames.specs.Answers as answers
-use Rattle.frames.specs.Store.{empty, push, checkFinalized}
-use Rattle.store_bench.specs.Loads.{frame, waiting, rescuing, guarded, mining, after, sizeOf, sized, pushed, guardedBy, told, Goes}
+use Rattle.store_rules.specs.Frames as frames
+use Rattle.store_rules.specs.Poll as polls
+use Rattle.store_rules.specs.Rules as rules
+use Rattle.store_rules.specs.Store as stores
+use Rattle.store_rules.specs.Answers as answers
+use Rattle.store_rules.specs.Store.{empty, push, checkFinalized}
+use Rattle.store_bench.specs.Loads.{frame, waiting, rescuing, guarded, mining, evicting, after, sizeOf, sized, pushed, guardedBy, told, Goes}
 
 -- the rounds whose store goes to the next, and calls on a store of 8 frames that is kept
 pub record Computed : Type 0 where
@@ -22,10 +22,11 @@ pub record Computed : Type 0 where
   pub ended : Goes (after (after empty (push (frame 0))) mining) (checkFinalized 100) 3 64 empty 1
   pub ninth : told (pushed 8) (push (frame 8)) 0 0 ≡ 9
   pub enters : told (pushed 8) mining 0 0 ≡ 1
+  pub evicts : told (pushed 8) evicting 64 0 ≡ 8
   pub ends : told (after (pushed 8) mining) (checkFinalized 100) 3 64 ≡ 1
 
 pub computed : Computed
-unfolding bytes.eqBytes bytes.leBytes lists.keep lists.isEmpty lists.isIn frames.degraded polls.numbersFrom polls.gap polls.predecessors polls.unknown polls.firstIs polls.contentsHold polls.contentMatches polls.boundaryHolds polls.guardMatches polls.stay polls.leave polls.row polls.pollFull polls.pollIn polls.pollGiven polls.pollRule rules.onlyOf rules.finalIn rules.finalRule stores.empty stores.guardOf stores.dropGuard stores.putGuard stores.after stores.walk stores.walked stores.fresh stores.insert stores.isTracked stores.enters stores.enterWith stores.enterFirst stores.anyEnters stores.effect stores.when stores.orElse stores.wideGap stores.badContent stores.badContents stores.noRoomFor stores.inputRefusal stores.entriesOf stores.listed stores.roomRefusal stores.refusal stores.unless stores.step answers.said pushed guardedBy
+unfolding bytes.eqBytes bytes.leBytes lists.keep lists.isEmpty lists.isIn frames.degraded polls.numbersFrom polls.gap polls.predecessors polls.unknown polls.firstIs polls.contentsHold polls.contentMatches polls.boundaryHolds polls.guardMatches polls.stay polls.leave polls.row polls.pollFull polls.pollIn polls.pollGiven polls.pollRule rules.onlyOf rules.evictRule rules.finalIn rules.finalRule stores.empty stores.guardOf stores.dropGuard stores.putGuard stores.after stores.walk stores.walked stores.fresh stores.insert stores.isTracked stores.enters stores.enterWith stores.enterFirst stores.anyEnters stores.effect stores.when stores.orElse stores.wideGap stores.badContent stores.badContents stores.noRoomFor stores.inputRefusal stores.entriesOf stores.listed stores.roomRefusal stores.rowWidth stores.refusal stores.unless stores.step answers.said pushed guardedBy
 computed =
     record {
       polled = record { store = refl; seen = refl };
@@ -34,6 +35,7 @@ computed =
       ended = record { store = refl; seen = refl };
       ninth = refl;
       enters = refl;
+      evicts = refl;
       ends = refl;
     }
 
@@ -45,7 +47,7 @@ pub record Polled (n : ℕ) : Type 0 where
   pub rescued : told (pushed n) rescuing 1216 0 ≡ n
 
 by-size : (a b : Bool) → Polled (sizeOf a b)
-unfolding bytes.eqBytes bytes.leBytes lists.keep lists.isEmpty lists.isIn frames.degraded polls.numbersFrom polls.gap polls.predecessors polls.unknown polls.firstIs polls.contentsHold polls.contentMatches polls.boundaryHolds polls.guardMatches polls.stay polls.leave polls.row polls.pollFull polls.pollIn polls.pollGiven polls.pollRule rules.onlyOf rules.finalIn rules.finalRule stores.empty stores.guardOf stores.dropGuard stores.putGuard stores.after stores.walk stores.walked stores.fresh stores.insert stores.isTracked stores.enters stores.enterWith stores.enterFirst stores.anyEnters stores.effect stores.when stores.orElse stores.wideGap stores.badContent stores.badContents stores.noRoomFor stores.inputRefusal stores.entriesOf stores.listed stores.roomRefusal stores.refusal stores.unless stores.step answers.said pushed guardedBy
+unfolding bytes.eqBytes bytes.leBytes lists.keep lists.isEmpty lists.isIn frames.degraded polls.numbersFrom polls.gap polls.predecessors polls.unknown polls.firstIs polls.contentsHold polls.contentMatches polls.boundaryHolds polls.guardMatches polls.stay polls.leave polls.row polls.pollFull polls.pollIn polls.pollGiven polls.pollRule rules.onlyOf rules.evictRule rules.finalIn rules.finalRule stores.empty stores.guardOf stores.dropGuard stores.putGuard stores.after stores.walk stores.walked stores.fresh stores.insert stores.isTracked stores.enters stores.enterWith stores.enterFirst stores.anyEnters stores.effect stores.when stores.orElse stores.wideGap stores.badContent stores.badContents stores.noRoomFor stores.inputRefusal stores.entriesOf stores.listed stores.roomRefusal stores.rowWidth stores.refusal stores.unless stores.step answers.said pushed guardedBy
 by-size true b = record { few = omega arith; waits = refl; held-back = refl; rescued = refl }
 by-size false true = record { few = omega arith; waits = refl; held-back = refl; rescued = refl }
 by-size false false = record { few = omega arith; waits = refl; held-back = refl; rescued = refl }

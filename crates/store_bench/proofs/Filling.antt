@@ -2,7 +2,7 @@
 use Prim.Native.Nat.{ℕ, _+_}
 use mathlib.Core.Path.{_≡_, refl}
 use native.Mathlib.Numerals.{add-one}
-use Rattle.frames.specs.Store.{empty, push, guard}
+use Rattle.store_rules.specs.Store.{empty, push, guard}
 use Rattle.store_bench.specs.Loads.{frame, guardAt, after, pushed, guardedBy}
 
 pub pushed-none : empty ≡ pushed 0

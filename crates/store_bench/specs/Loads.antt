@@ -7,9 +7,11 @@ use mathlib.Core.Option.{none, some}
 use lib.Dec.{ltb}
 use lib.ListN.{set, replicate}
 use Rattle.lists.specs.Bytes.{Bytes}
-use Rattle.frames.specs.Frames.{Frame, mined, Guard, reparked}
-use Rattle.frames.specs.Store.{Store, empty, Call, push, poll, guard, enterTentative, step}
-use Rattle.frames.specs.Answers.{Said, saysTotal, saysRows, saysRecorded, saysEntered, saysFrames, saysDead, saysRefused, said}
+use Rattle.store_rules.specs.Frames.{Frame, mined, Guard, reparked}
+use Rattle.store_rules.specs.Store.{Store, empty, Call, long, push, poll, guard, enterTentative, evictSender, step}
+use Rattle.store_rules.specs.View.{Bodies, bodiesOf, heldView}
+use Rattle.store_rules.specs.declared.Held.{Held}
+use Rattle.store_rules.specs.Answers.{Said, saysTotal, saysRows, saysRecorded, saysEntered, saysFrames, saysDead, saysRefused, said}
 
 -- ---- frames
 
@@ -49,7 +51,18 @@ guarded = poll sender 5 (5 ∷ 6 ∷ 7 ∷ []) (some (record { nonces = 5 ∷ 6 
 abbrev pub mining : Call
 mining = enterTentative (hashAt 0) (record { kind = mined; block = 100; blockHash = replicate 32 3 })
 
+-- every frame is evicted
+abbrev pub evicting : Call
+evicting = evictSender sender
+
 -- ---- stores
+
+abbrev pub noBodies : Bodies
+noBodies = bodiesOf [] []
+
+-- the held part alone, for calls that read no guard's body
+abbrev pub alone : Held → Store
+alone h = heldView noBodies h
 
 -- 1, 8 or 64, by whether a number is below 8, and below 64
 abbrev pub sizeOf : Bool → Bool → ℕ
@@ -63,7 +76,7 @@ sized n = sizeOf (ltb n 8) (ltb n 64)
 
 -- the store after a call that takes no slice
 abbrev pub after : Store → Call → Store
-after s call = step s (record { call = call; numbers = 0; bytes = 0 }) .0
+after s call = step s (record { call = call; form = long; numbers = 0; bytes = 0 }) .0
 
 -- so many frames
 unfoldable pub pushed : ℕ → Store
@@ -89,9 +102,9 @@ counted (saysRefused n) = 0
 
 -- how many a call with so much room for numbers and bytes tells of
 abbrev pub told : Store → Call → ℕ → ℕ → ℕ
-told s call numbers bytes = counted (said (step s (record { call = call; numbers = numbers; bytes = bytes }) .1))
+told s call numbers bytes = counted (said (step s (record { call = call; form = long; numbers = numbers; bytes = bytes }) .1))
 
 -- such a call leads to this store, and tells of so many
 pub record Goes (s : Store) (call : Call) (numbers bytes : ℕ) (t : Store) (n : ℕ) : Type 0 where
-  pub store : step s (record { call = call; numbers = numbers; bytes = bytes }) .0 ≡ t
+  pub store : step s (record { call = call; form = long; numbers = numbers; bytes = bytes }) .0 ≡ t
   pub seen : told s call numbers bytes ≡ n

@@ -1,10 +1,12 @@
 // Loops over store calls, for drivers that time them. Each makes its store, runs so many rounds, at most 2^32, and answers how
-// many rows or frames the answers told of.
+// many rows or frames the answers told of. All but one run on the held part of a store.
 ghost use mathlib.Core.Path.{_≡_};
 ghost use Prim.Native.Nat.{_*_, min};
 ghost use Rattle.store_bench.specs.Loads.{sized};
+use gap_quarantine::Held;
 use gap_quarantine::Quarantine;
 use once::Once;
+use once::held_back;
 use once::repeated;
 use stores::capped;
 use stores::counted;
@@ -25,7 +27,33 @@ pub extern "C" fn gap_quarantine_polls(rounds: u64) -> u64
 {
     let limit = capped(rounds);
     let known = [6u64; 1];
-    let mut q = store_of(8);
+    let mut h = store_of(8);
+    let mut seen: u64 = 0;
+    let mut i: u64 = 0;
+    while i < limit {
+        let mut rows = [0u64; 152];
+        let r = gap_quarantine::poll(h, [1u8; 20], 5, &known, &mut rows);
+        h = r.held;
+        let answer = r.answer;
+        seen += counted(answer);
+        i += 1;
+    }
+    seen
+}
+
+// The same on the whole store as one value.
+#[no_mangle]
+pub extern "C" fn store_bench_whole_waiting(rounds: u64) -> u64
+    ensures { λ r. ⌜ r ≡ 8 * min rounds 4294967296 ⌝ }
+{
+    let limit = capped(rounds);
+    let known = [6u64; 1];
+    let held = store_of(8);
+    let mut q = Quarantine {
+        held: held,
+        guard_numbers: [0u64; 1280],
+        guard_contents: [0u8; 32768],
+    };
     let mut seen: u64 = 0;
     let mut i: u64 = 0;
     while i < limit {
@@ -47,13 +75,25 @@ pub extern "C" fn gap_quarantine_guarded_polls(rounds: u64) -> u64
     let limit = capped(rounds);
     let gap = [5u64, 6, 7];
     let hashes = [7u8; 96];
-    let mut q = guarded_store(8);
+    let mut numbers = [0u64; 1280];
+    let mut contents = [0u8; 32768];
+    let mut h = guarded_store(8, &mut numbers, &mut contents);
     let mut seen: u64 = 0;
     let mut i: u64 = 0;
     while i < limit {
         let mut rows = [0u64; 152];
-        let r = q.poll_with_content([1u8; 20], 5, &gap, &gap, &hashes, &mut rows);
-        q = r.store;
+        let r = gap_quarantine::poll_with_content(
+            h,
+            &numbers,
+            &contents,
+            [1u8; 20],
+            5,
+            &gap,
+            &gap,
+            &hashes,
+            &mut rows,
+        );
+        h = r.held;
         let answer = r.answer;
         seen += counted(answer);
         i += 1;
@@ -68,15 +108,15 @@ pub extern "C" fn gap_quarantine_push_and_rescue(rounds: u64) -> u64
 {
     let limit = capped(rounds);
     let known = [0u64; 0];
-    let mut q = Quarantine::new();
+    let mut h = Held::new();
     let mut seen: u64 = 0;
     let mut i: u64 = 0;
     while i < limit {
         let mut rows = [0u64; 19];
-        let pushed = q.push(frame(0));
-        let held = pushed.store;
-        let r = held.poll([1u8; 20], 8, &known, &mut rows);
-        q = r.store;
+        let pushed = gap_quarantine::push(h, frame(0));
+        let held = pushed.held;
+        let r = gap_quarantine::poll(held, [1u8; 20], 8, &known, &mut rows);
+        h = r.held;
         let answer = r.answer;
         seen += counted(answer);
         i += 1;
@@ -90,17 +130,17 @@ pub extern "C" fn gap_quarantine_finality(rounds: u64) -> u64
     ensures { λ r. ⌜ r ≡ min rounds 4294967296 ⌝ }
 {
     let limit = capped(rounds);
-    let mut q = Quarantine::new();
+    let mut h = Held::new();
     let mut seen: u64 = 0;
     let mut i: u64 = 0;
     while i < limit {
         let mut numbers = [0u64; 3];
         let mut bytes = [0u8; 64];
-        let pushed = q.push(frame(0));
-        let held = pushed.store;
+        let pushed = gap_quarantine::push(h, frame(0));
+        let held = pushed.held;
         let entered = stores::mined(held);
-        let r = entered.check_finalized(100, &mut numbers, &mut bytes);
-        q = r.store;
+        let r = gap_quarantine::check_finalized(entered, 100, &mut numbers, &mut bytes);
+        h = r.held;
         let answer = r.answer;
         seen += counted(answer);
         i += 1;
@@ -131,7 +171,10 @@ pub extern "C" fn store_bench_waiting(frames: u64, rounds: u64) -> u64
 pub extern "C" fn store_bench_guarded(frames: u64, rounds: u64) -> u64
     ensures { λ r. ⌜ r ≡ sized frames * min rounds 4294967296 ⌝ }
 {
-    repeated(Once::HoldBack, guarded_store(sized(frames)), rounds)
+    let mut numbers = [0u64; 1280];
+    let mut contents = [0u8; 32768];
+    let h = guarded_store(sized(frames), &mut numbers, &mut contents);
+    held_back(h, &numbers, &contents, rounds)
 }
 
 // Polls of a sender with 1, 8 or 64 frames, which are all rescued.
@@ -148,6 +191,14 @@ pub extern "C" fn store_bench_enter(rounds: u64) -> u64
     ensures { λ r. ⌜ r ≡ min rounds 4294967296 ⌝ }
 {
     repeated(Once::Enter, store_of(8), rounds)
+}
+
+// Evictions of a sender's 8 frames.
+#[no_mangle]
+pub extern "C" fn store_bench_evict(rounds: u64) -> u64
+    ensures { λ r. ⌜ r ≡ 8 * min rounds 4294967296 ⌝ }
+{
+    repeated(Once::Evict, store_of(8), rounds)
 }
 
 // Finality that ends one of 8 frames.

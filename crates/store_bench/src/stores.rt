@@ -1,14 +1,13 @@
 // The stores that the loops run on, and how many an answer tells of.
 ghost use mathlib.Core.Path.{_≡_};
 ghost use Prim.Native.Nat.{min};
-ghost use Rattle.frames.specs.View.{frameOf};
-ghost use Rattle.gap_quarantine.specs.Contracts.{viewOf};
+ghost use Rattle.store_rules.specs.View.{frameOf, Bodies, bodiesOf, heldView};
 ghost use Rattle.gap_quarantine.specs.Contracts.{heard};
 ghost use Rattle.store_bench.specs.Loads.{hashAt, frame, mining, after, pushed, guardedBy, sized, counted};
 use gap_quarantine::Answer;
+use gap_quarantine::Held;
 use gap_quarantine::NonceConsumed;
 use gap_quarantine::ParkedFrame;
-use gap_quarantine::Quarantine;
 
 // The rounds of one run, at most 2^32.
 pub(crate) fn capped(rounds: u64) -> u64
@@ -79,43 +78,61 @@ pub(crate) fn frame(n: u8) -> ParkedFrame
 }
 
 // So many frames.
-pub(crate) fn store_of(frames: u8) -> Quarantine
-    ensures { λ r. ⌜ viewOf r ≡ pushed frames ⌝ }
+pub(crate) fn store_of(frames: u8) -> Held
+    ensures { λ r. ⌜ ((bodies : Bodies) → heldView bodies r ≡ pushed frames) ⌝ }
 {
-    let mut q = Quarantine::new();
+    let mut h = Held::new();
     let mut i: u8 = 0;
     while i < frames {
-        let r = q.push(frame(i));
-        q = r.store;
+        let r = gap_quarantine::push(h, frame(i));
+        h = r.held;
         i += 1;
     }
-    q
+    h
 }
 
-// So many frames, each with its guard.
-pub(crate) fn guarded_store(frames: u8) -> Quarantine
-    ensures { λ r. ⌜ viewOf r ≡ guardedBy frames ⌝ }
+// So many frames, each with its guard, whose body goes to the lent arrays.
+pub(crate) fn guarded_store(
+    frames: u8,
+    numbers: &mut [u64; 1280],
+    contents: &mut [u8; 32768],
+) -> Held
+    ensures { λ r. ⌜ heldView (bodiesOf (now (numbers .exit)) (now (contents .exit))) r ≡ guardedBy frames ⌝ }
 {
     let gap = [5u64, 6, 7];
-    let contents = [7u8; 96];
-    let mut q = Quarantine::new();
+    let hashes = [7u8; 96];
+    let mut h = Held::new();
     let mut i: u8 = 0;
     while i < frames {
-        let pushed = q.push(frame(i));
-        let held = pushed.store;
-        let r = held.record_repark_guard_with_content(hash_at(i), &gap, &contents, 5);
-        q = r.store;
+        let pushed = gap_quarantine::push(h, frame(i));
+        let held = pushed.held;
+        let r = gap_quarantine::record_repark_guard_with_content(
+            held,
+            &mut *numbers,
+            &mut *contents,
+            hash_at(i),
+            &gap,
+            &hashes,
+            5,
+        );
+        h = r.held;
         i += 1;
     }
-    q
+    h
 }
 
 // The store after its first frame was mined in block 100.
-pub(crate) fn mined(q: Quarantine) -> Quarantine
-    ensures { λ r. ⌜ viewOf r ≡ after (viewOf q) mining ⌝ }
+pub(crate) fn mined(h: Held) -> Held
+    ensures { λ r. ⌜ ((bodies : Bodies) → heldView bodies r ≡ after (heldView bodies h) mining) ⌝ }
 {
     let zeros = [0u8; 32];
-    let r = q.enter_tentative(hash_at(0), NonceConsumed::MinedAt(100), [3u8; 32], zeros);
-    let store = r.store;
-    store
+    let r = gap_quarantine::enter_tentative(
+        h,
+        hash_at(0),
+        NonceConsumed::MinedAt(100),
+        [3u8; 32],
+        zeros,
+    );
+    let held = r.held;
+    held
 }

@@ -1,7 +1,7 @@
 use Prim.Native.Nat.{_-_}
 use mathlib.Core.Path.{_≡_, _∙_}
 use native.Mathlib.Omega.{arith}
-use Rattle.gap_quarantine.specs.Contracts.{viewOf}
+use Rattle.store_rules.specs.View.{bodiesOf, heldView}
 use Rattle.store_bench.specs.Loads.{guardedBy}
 use Rattle.store_bench.proofs.Computed.{computed}
 use Rattle.store_bench.proofs.Performing.{leads, seen}
@@ -11,10 +11,10 @@ use Rattle.store_bench.proofs.gap_quarantine_guarded_polls.Statement.{s
 use Rattle.store_bench.proofs.gap_quarantine_guarded_polls.Tie as tie
 
 abbrev Inv-loop : tie.InvT-loop
-Inv-loop rounds limit gap hashes q₀ seen₀ i₀ q seen i = Ran 8 limit seen i × (viewOf q ≡ guardedBy 8)
+Inv-loop rounds limit gap hashes numbers contents h₀ seen₀ i₀ h seen i = Ran 8 limit seen i × (heldView (bodiesOf numbers contents) h ≡ guardedBy 8)
 
 abbrev μ-loop : tie.MeasureT-loop
-μ-loop rounds limit gap hashes q₀ seen₀ i₀ q seen i = limit - i
+μ-loop rounds limit gap hashes numbers contents h₀ seen₀ i₀ h seen i = limit - i
 
 capped-requires : tie.Need-capped-requires Inv-loop μ-loop
 capped-requires c κs = search needs
@@ -44,7 +44,7 @@ counted-requires : tie.Need-counted-requires Inv-loop μ-loop
 counted-requires c κs = search needs
 
 add-seen : tie.Need-add-seen Inv-loop μ-loop
-add-seen c = omega (arith, fits (omega arith) ((c .before .before .before .before .before .before .before .before .before) .loop .inv .0) ((c .before .before .before .before .before .before .before .before) .loop-test .taken) (c .counted .ensures ∙ seen ((c .before .before .before) .poll-with-content .ensures) ((c .before .before .before .before .before .before .before .before .before) .loop .inv .1) (computed .guarded-polled)) (omega arith))
+add-seen c = omega (arith, fits (omega arith) ((c .before .before .before .before .before .before .before .before .before .before .before) .loop .inv .0) ((c .before .before .before .before .before .before .before .before .before .before) .loop-test .taken) (c .counted .ensures ∙ seen ((c .before .before .before) .poll-with-content .ensures) ((c .before .before .before .before .before .before .before .before .before .before .before) .loop .inv .1) (computed .guarded-polled)) (omega arith))
 
 add-i : tie.Need-add-i Inv-loop μ-loop
 add-i c = search needs
@@ -53,10 +53,10 @@ loop-less : tie.Need-loop-less Inv-loop μ-loop
 loop-less c = search needs
 
 loop-again : tie.Need-loop-again Inv-loop μ-loop
-loop-again c = (next (omega arith) ((c .before .before .before .before .before .before .before .before .before) .loop .inv .0) ((c .before .before .before .before .before .before .before .before) .loop-test .taken) (c .counted .ensures ∙ seen ((c .before .before .before) .poll-with-content .ensures) ((c .before .before .before .before .before .before .before .before .before) .loop .inv .1) (computed .guarded-polled)), leads ((c .before .before .before) .poll-with-content .ensures) ((c .before .before .before .before .before .before .before .before .before) .loop .inv .1) (computed .guarded-polled))
+loop-again c = (next (omega arith) ((c .before .before .before .before .before .before .before .before .before .before .before) .loop .inv .0) ((c .before .before .before .before .before .before .before .before .before .before) .loop-test .taken) (c .counted .ensures ∙ seen ((c .before .before .before) .poll-with-content .ensures) ((c .before .before .before .before .before .before .before .before .before .before .before) .loop .inv .1) (computed .guarded-polled)), leads ((c .before .before .before) .poll-with-content .ensures) ((c .before .before .before .before .before .before .before .before .before .before .before) .loop .inv .1) (computed .guarded-polled))
 
 returns : tie.Need-returns Inv-loop μ-loop
-returns c = done ((c .before) .loop .inv .0) (c .loop-test .left) ((c .before .before .before) .capped .ensures)
+returns c = done ((c .before) .loop .inv .0) (c .loop-test .left) ((c .before .before .before .before .before) .capped .ensures)
 
 pub gap-quarantine-guarded-polls-spec : {M : Type 1} → statement M
 gap-quarantine-guarded-polls-spec =

@@ -10,12 +10,12 @@ sized-requires c κs = search needs
 guarded-store-requires : tie.Need-guarded-store-requires
 guarded-store-requires c κs = search needs
 
-repeated-requires : tie.Need-repeated-requires
-repeated-requires c κs = rw (c .guarded-store .ensures, (c .before) .sized .ensures, at-size _ .held-back) (at-size (c .before .before .args .frames) .few)
+held-back-requires : tie.Need-held-back-requires
+held-back-requires c κs = rw ((c .before .before) .guarded-store .ensures, (c .before .before .before .before .before) .sized .ensures, at-size _ .held-back) (at-size ((c .before .before .before .before .before .before) .args .frames) .few)
 
 returns : tie.Need-returns
-returns c = c .repeated .ensures ∙ rw ((c .before) .guarded-store .ensures, (c .before .before) .sized .ensures, at-size _ .held-back)
+returns c = c .held-back .ensures ∙ rw ((c .before .before .before) .guarded-store .ensures, (c .before .before .before .before .before .before) .sized .ensures, at-size _ .held-back)
 
 pub store-bench-guarded-spec : {M : Type 1} → statement M
 store-bench-guarded-spec =
-    tie.close (tie.spec sized-requires guarded-store-requires repeated-requires returns)
+    tie.close (tie.spec sized-requires guarded-store-requires held-back-requires returns)

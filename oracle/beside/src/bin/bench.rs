@@ -101,17 +101,20 @@ fn finality(rounds: u64) -> u64 {
 
 fn store() {
     let ours = store_loops();
-    let measures: [(&str, fn(u64) -> u64, u64, Option<Loop>); 4] = [
-        ("polls with 8 frames a sender", polls, 10_000, ours.as_ref().map(|o| o.polls)),
-        ("guarded polls with content, 8 frames", guarded_polls, 10_000, ours.as_ref().map(|o| o.guarded_polls)),
-        ("push and rescue", push_and_rescue, 10_000, ours.as_ref().map(|o| o.push_and_rescue)),
-        ("push, entering and finality", finality, 10_000, ours.as_ref().map(|o| o.finality)),
+    let measures: [(&str, fn(u64) -> u64, Option<Loop>); 4] = [
+        ("polls with 8 frames a sender", polls, ours.as_ref().map(|o| o.polls)),
+        ("guarded polls with content, 8 frames", guarded_polls, ours.as_ref().map(|o| o.guarded_polls)),
+        ("push and rescue", push_and_rescue, ours.as_ref().map(|o| o.push_and_rescue)),
+        ("push, entering and finality", finality, ours.as_ref().map(|o| o.finality)),
     ];
-    for (name, rust, rounds, ours) in measures {
+    for (name, rust, ours) in measures {
         if let Some(ours) = ours {
             assert_eq!(rust(100), ours(100), "{name}: both sides see as many rows");
         }
-        say(name, "rounds", rate(rounds, || rust(rounds)), ours.map(|ours| rate(rounds, || ours(rounds))));
+        for rounds in [100, 10_000] {
+            let name = format!("{name}, {rounds} rounds");
+            say(&name, "rounds", rate(rounds, || rust(rounds)), ours.map(|ours| rate(rounds, || ours(rounds))));
+        }
     }
 }
 

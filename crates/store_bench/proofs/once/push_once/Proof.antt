@@ -1,4 +1,5 @@
 use mathlib.Core.Path.{_∙_}
+use Rattle.store_bench.specs.Loads.{noBodies}
 use Rattle.store_bench.proofs.Performing.{tells}
 use borrow.Author.Needs.{needs}
 use Rattle.store_bench.proofs.once.push_once.Statement.{statement}
@@ -14,7 +15,7 @@ counted-requires : tie.Need-counted-requires
 counted-requires c κs = search needs
 
 returns : tie.Need-returns
-returns c = c .counted .ensures ∙ tells (c .before .push .ensures) ∙ rw (c .before .before .frame .ensures)
+returns c = c .counted .ensures ∙ tells (c .before .push .ensures noBodies) ∙ rw (c .before .before .frame .ensures)
 
 pub push-once-spec : {M : Type 1} → statement M
 push-once-spec = tie.close (tie.spec frame-requires push-requires counted-requires returns)

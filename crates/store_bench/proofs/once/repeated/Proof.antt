@@ -1,6 +1,6 @@
 use Prim.Native.Nat.{_-_}
 use native.Mathlib.Omega.{arith}
-use Rattle.gap_quarantine.specs.Contracts.{viewOf}
+use Rattle.store_bench.specs.Loads.{alone}
 use Rattle.store_bench.specs.Once.{toldOnce}
 use Rattle.store_bench.proofs.Rounds.{Ran, fits, next, start, done}
 use borrow.Author.Needs.{needs}
@@ -8,10 +8,10 @@ use Rattle.store_bench.proofs.once.repeated.Statement.{statement}
 use Rattle.store_bench.proofs.once.repeated.Tie as tie
 
 abbrev Inv-loop : tie.InvT-loop
-Inv-loop what q rounds limit seen₀ i₀ seen i = Ran (toldOnce what (viewOf q)) limit seen i
+Inv-loop what h rounds limit seen₀ i₀ seen i = Ran (toldOnce what (alone h)) limit seen i
 
 abbrev μ-loop : tie.MeasureT-loop
-μ-loop what q rounds limit seen₀ i₀ seen i = limit - i
+μ-loop what h rounds limit seen₀ i₀ seen i = limit - i
 
 capped-requires : tie.Need-capped-requires Inv-loop μ-loop
 capped-requires c κs = search needs

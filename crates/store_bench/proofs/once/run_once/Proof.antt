@@ -17,20 +17,20 @@ wait-once-requires c κs = search needs
 enum-told-3 : tie.Need-enum-told-3
 enum-told-3 c = search needs
 
-hold-back-once-requires : tie.Need-hold-back-once-requires
-hold-back-once-requires c κs = search needs
+rescue-once-requires : tie.Need-rescue-once-requires
+rescue-once-requires c κs = search needs
 
 enum-told-4 : tie.Need-enum-told-4
 enum-told-4 c = search needs
 
-rescue-once-requires : tie.Need-rescue-once-requires
-rescue-once-requires c κs = search needs
+enter-once-requires : tie.Need-enter-once-requires
+enter-once-requires c κs = search needs
 
 enum-told-5 : tie.Need-enum-told-5
 enum-told-5 c = search needs
 
-enter-once-requires : tie.Need-enter-once-requires
-enter-once-requires c κs = search needs
+evict-once-requires : tie.Need-evict-once-requires
+evict-once-requires c κs = search needs
 
 enum-told-6 : tie.Need-enum-told-6
 enum-told-6 c = search needs
@@ -45,13 +45,13 @@ returns-2 : tie.Need-returns-2
 returns-2 c = rw (c .before .enum-told2 .given .1) (c .wait-once .ensures)
 
 returns-3 : tie.Need-returns-3
-returns-3 c = rw (c .before .enum-told3 .given .1) (c .hold-back-once .ensures)
+returns-3 c = rw (c .before .enum-told3 .given .1) (c .rescue-once .ensures)
 
 returns-4 : tie.Need-returns-4
-returns-4 c = rw (c .before .enum-told4 .given .1) (c .rescue-once .ensures)
+returns-4 c = rw (c .before .enum-told4 .given .1) (c .enter-once .ensures)
 
 returns-5 : tie.Need-returns-5
-returns-5 c = rw (c .before .enum-told5 .given .1) (c .enter-once .ensures)
+returns-5 c = rw (c .before .enum-told5 .given .1) (c .evict-once .ensures)
 
 returns-6 : tie.Need-returns-6
 returns-6 c = rw (c .before .enum-told6 .given .1) (c .finality-once .ensures)
@@ -65,11 +65,11 @@ run-once-spec =
     enum-told-2
     wait-once-requires
     enum-told-3
-    hold-back-once-requires
-    enum-told-4
     rescue-once-requires
-    enum-told-5
+    enum-told-4
     enter-once-requires
+    enum-told-5
+    evict-once-requires
     enum-told-6
     finality-once-requires
     returns

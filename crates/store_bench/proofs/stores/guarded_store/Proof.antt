@@ -1,7 +1,7 @@
 use Prim.Native.Nat.{_-_, _≤_}
 use mathlib.Core.Path.{_≡_, _∙_}
 use native.Mathlib.Omega.{arith}
-use Rattle.gap_quarantine.specs.Contracts.{viewOf}
+use Rattle.store_rules.specs.View.{bodiesOf, heldView}
 use Rattle.store_bench.specs.Loads.{guardedBy}
 use Rattle.store_bench.proofs.Filling.{guarded-none, guarded-more}
 use borrow.Author.Needs.{needs}
@@ -9,16 +9,16 @@ use Rattle.store_bench.proofs.stores.guarded_store.Statement.{statement
 use Rattle.store_bench.proofs.stores.guarded_store.Tie as tie
 
 abbrev Inv-loop : tie.InvT-loop
-Inv-loop frames gap contents q₀ i₀ q i = (i ≤ frames) × (viewOf q ≡ guardedBy i)
+Inv-loop frames numbers₀ contents₀ gap hashes h₀ i₀ numbers contents h i = (i ≤ frames) × (heldView (bodiesOf numbers contents) h ≡ guardedBy i)
 
 abbrev μ-loop : tie.MeasureT-loop
-μ-loop frames gap contents q₀ i₀ q i = frames - i
+μ-loop frames numbers₀ contents₀ gap hashes h₀ i₀ numbers contents h i = frames - i
 
 new-requires : tie.Need-new-requires Inv-loop μ-loop
 new-requires c κs = search needs
 
 loop-holds : tie.Need-loop-holds Inv-loop μ-loop
-loop-holds c = (search needs, c .new .ensures ∙ guarded-none)
+loop-holds c = (search needs, c .new .ensures _ ∙ guarded-none)
 
 frame-requires : tie.Need-frame-requires Inv-loop μ-loop
 frame-requires c κs = search needs
@@ -48,7 +48,7 @@ loop-less : tie.Need-loop-less Inv-loop μ-loop
 loop-less c = search needs
 
 loop-again : tie.Need-loop-again Inv-loop μ-loop
-loop-again c = (search needs, (c .before) .record-repark-guard-with-content .ensures .store ∙ rw ((c .before .before .before .before) .hash-at .ensures, (c .before .before .before .before .before .before) .push .ensures .store, (c .before .before .before .before .before .before .before) .frame .ensures, (c .before .before .before .before .before .before .before .before .before) .loop .inv .1) (guarded-more _))
+loop-again c = (search needs, (c .before) .record-repark-guard-with-content .ensures .store ∙ rw ((c .before .before .before .before) .hash-at .ensures, (c .before .before .before .before .before .before .before .before) .push .ensures (bodiesOf ((c .before .before .before .before .before .before .before .before .before .before .before) .loop .numbers) ((c .before .before .before .before .before .before .before .before .before .before .before) .loop .contents)) .store, (c .before .before .before .before .before .before .before .before .before) .frame .ensures, (c .before .before .before .before .before .before .before .before .before .before .before) .loop .inv .1) (guarded-more _))
 
 returns : tie.Need-returns Inv-loop μ-loop
 returns c = let all : (c .before) .loop .i ≡ (c .before .before .before) .args .frames = omega arith in rw (← all) ((c .before) .loop .inv .1)

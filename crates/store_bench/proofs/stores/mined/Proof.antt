@@ -10,7 +10,7 @@ enter-tentative-requires : tie.Need-enter-tentative-requires
 enter-tentative-requires c κs = search needs
 
 returns : tie.Need-returns
-returns c = c .before .enter-tentative .ensures .store ∙ rw (c .before .before .hash-at .ensures)
+returns c bodies = c .before .enter-tentative .ensures bodies .store ∙ rw (c .before .before .hash-at .ensures)
 
 pub mined-spec : {M : Type 1} → statement M
 mined-spec = tie.close (tie.spec hash-at-requires enter-tentative-requires returns)
