@@ -3,22 +3,22 @@ use Prim.Native.Nat.{ℕ, _+_, _*_, _≤_, _<_, min}
 use native.Mathlib.Omega.{arith}
 use mathlib.Core.Path.{_≡_, refl, sym, _∙_}
 use mathlib.Core.Bool.{true, false, _||_}
-use lib.Dec.{ltb}
 use mathlib.Core.Option.{none}
 use mathlib.Core.List.{List, [], _∷_, map}
-use Rattle.lists.specs.Bytes.{Bytes}
-use Rattle.store_rules.specs.Frames.{State, tracked, tentative, Entry}
-use Rattle.store_rules.specs.Poll.{stay}
+use lib.Dec.{ltb}
 use lib.ListN.{length, take, getD, set}
 use types.Run.{OneOf, miss}
 use denote.Enum.Declared.{tagOf}
+use Rattle.lists.specs.Bytes.{Bytes}
 use Rattle.lists.specs.Lists.{keep}
 use Rattle.lists.proofs.Compacting.{clamp}
+use Rattle.store_rules.specs.Frames.{State, tracked, tentative, Entry}
+use Rattle.store_rules.specs.Poll.{stay}
 use Rattle.store_rules.specs.View.{entryOf, entriesSeen, labelsOf, liveOf, Bodies, bodiesOf}
-use Rattle.store_rules.proofs.InPlace.{Going, start, silent, one-left, number-room, byte-room, kept, left, done}
-use Rattle.decisions.proofs.Selecting.{select-count, numbers-width, Lists}
-use Rattle.decisions.specs.Selections.{callOf, ends, selected, selectRule, revived, listedAs, staysAs, isTentative, numberWidth, byteWidth, numbersFor, bytesFor}
 use Rattle.store_rules.specs.Store.{dropGuard}
+use Rattle.store_rules.proofs.InPlace.{Going, start, silent, one-left, number-room, byte-room, kept, left, done}
+use Rattle.decisions.specs.Selections.{callOf, ends, selected, selectRule, revived, listedAs, staysAs, isTentative, numberWidth, byteWidth, numbersFor, bytesFor}
+use Rattle.decisions.proofs.Selecting.{select-count, numbers-width, Lists}
 use Rattle.gap_quarantine.specs.Contracts.{answered, Always}
 use Rattle.gap_quarantine.proofs.PassSteps.{passed}
 use Rattle.store_rules.specs.declared.Entry as coded

@@ -14,7 +14,7 @@ use Rattle.store_rules.specs.declared.Held.{Held}
 use Rattle.guards.specs.Recording.{Records}
 use Rattle.guards.specs.declared.Recording.{Recording}
 use Rattle.guards.specs.declared.Recording.the-variants.{Places, Full}
-use Rattle.gap_quarantine.specs.Contracts.{joined, Writes}
+use Rattle.gap_quarantine.specs.Contracts.{Writes}
 use Rattle.gap_quarantine.specs.declared.Answer.the-variants.{Recorded, Refused}
 
 module _ (h : Held) (numbers : List ℕ) (contents : Bytes) (g : Guard) where
