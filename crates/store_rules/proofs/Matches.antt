@@ -1,6 +1,5 @@
 -- Whether a guard matches, test by test.
-use Prim.Native.Nat.{ℕ, _+_, _*_, _-_, _≤_, _<_, min}
-use native.Mathlib.Nat.{sub-zero}
+use Prim.Native.Nat.{ℕ, _+_, _≤_, _<_}
 use native.Mathlib.Numerals.{add-one}
 use native.Mathlib.Omega.{arith}
 use mathlib.Core.Path.{_≡_, refl}
@@ -12,11 +11,10 @@ use lib.Seq.{drop-cons, drop-drop}
 use lib.Dec.{eqb}
 use Rattle.lists.specs.Bytes.{Bytes, eqBytes}
 use Rattle.lists.specs.Lists.{isEmpty}
-use Rattle.lists.proofs.Compacting.{clamp}
 use Rattle.store_rules.specs.Frames.{Guard}
 use Rattle.store_rules.specs.Poll.{Content, firstIs, contentsHold, contentMatches, boundaryHolds, guardMatches}
 
--- ---- lists that are empty, and the fronts of arrays
+-- ---- lists that are empty
 
 pub empty-is : {A : Type 0} (l : List A) → length l ≡ 0 → isEmpty l ≡ true
 unfolding isEmpty
@@ -27,14 +25,6 @@ pub filled-not-empty : {A : Type 0} (l : List A) → (length l ≡ 0 → ⊥) �
 unfolding isEmpty
 filled-not-empty [] n = absurd (n refl)
 filled-not-empty (x ∷ xs) n = refl
-
--- the front of an array as the code cuts it out, by a count that is clamped to the array's length
-pub front : {A : Type 0} (k n m : ℕ) (l : List A) → length l ≡ m → n ≡ min k m → take (n - 0) (drop 0 l) ≡ take k l
-front k n m l e q = rw (sub-zero, q) (clamp k m l e)
-
--- so many whole hashes of an array of 16
-pub front-hashes : (k n end : ℕ) (l : Bytes) → length l ≡ 512 → n ≡ min k 16 → end ≡ 32 * n → take (end - 0) (drop 0 l) ≡ take (32 * k) l
-front-hashes k n end l e q d = front (32 * k) end 512 l e (omega arith)
 
 -- ---- one turn of the loops over content
 
