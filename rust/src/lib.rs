@@ -1,4 +1,32 @@
 //! The proved fold of a quarantine journal and the restore of its records, with a safe interface.
+//!
+//! [`fold`] reads a journal and writes the park records that are still pending; [`restore`] makes a [`Frame`] of each. Both
+//! answer a [`Refusal`] on any input that they do not take.
+//!
+//! ```
+//! use gap_quarantine_journal::{fold, restore, Refusal, ENOUGH, PARK};
+//!
+//! let mut out = [0; ENOUGH];
+//! let totals = fold(b"QX\x05\0\0\0\0\0\0\0", &mut out)?;
+//! assert_eq!((totals.pending, totals.skipped, totals.end), (0, 1, 10));
+//! for record in out.chunks(PARK).take(totals.pending) {
+//!     match restore(record) {
+//!         Ok(frame) => println!("ticket {}", frame.ticket),
+//!         Err(refusal) => println!("{refusal}"),
+//!     }
+//! }
+//!
+//! let refusal = fold(b"??", &mut out).unwrap_err();
+//! assert_eq!(refusal, Refusal::UnknownMark { offset: 0 });
+//! assert_eq!(refusal.to_string(), "refusal 10 at byte 0: unknown mark");
+//! # Ok::<(), Refusal>(())
+//! ```
+
+#![warn(missing_docs)]
+
+mod refusal;
+
+pub use refusal::Refusal;
 
 /// The length of a pending park record.
 pub const PARK: usize = 240;
@@ -9,29 +37,34 @@ pub const ENOUGH: usize = 64 * PARK;
 /// What a fold counts, and the offset at which it ended.
 #[derive(Debug, Clone, Copy, PartialEq, Eq)]
 pub struct Totals {
-    pub pending: u64,
-    pub skipped: u64,
-    pub migrated: u64,
-    pub degraded: u64,
-    pub end: u64,
-}
-
-/// A refusal's number and its offset; nothing was written.
-#[derive(Debug, Clone, Copy, PartialEq, Eq)]
-pub struct Refused {
-    pub number: u8,
-    pub offset: u64,
+    /// The records written, [`PARK`] bytes each.
+    pub pending: usize,
+    /// The lines that are no record, and the older parks without a hash or without a claimed nonce.
+    pub skipped: usize,
+    /// The older parks of which a record was made, also if it was replaced or removed later.
+    pub migrated: usize,
+    /// Those of the migrated that are degraded.
+    pub degraded: usize,
+    /// Where the records that were read end: the journal's length, or the offset of an unfinished last record.
+    pub end: usize,
 }
 
 /// The frame of a park record.
 #[derive(Debug, Clone, Copy, PartialEq, Eq)]
 pub struct Frame {
+    /// The hash that the record's text parses to.
     pub hash: [u8; 32],
+    /// The sender's address.
     pub from: [u8; 20],
+    /// The nonce that was expected of the sender when the frame was parked.
     pub expected: u64,
+    /// The nonce that the frame claims.
     pub claim: u64,
+    /// The chain's number; 0 of a degraded record.
     pub chain_id: u64,
+    /// The gas limit; 0 of a degraded record.
     pub gas: u64,
+    /// The number that stands for the frame.
     pub ticket: u64,
 }
 
@@ -48,34 +81,44 @@ extern "C" {
     fn gap_quarantine_restore(record: *const u8, record_len: usize, frame: *mut u8, frame_len: usize) -> u64;
 }
 
-/// Folds a journal. The pending park records, 240 bytes each in key order, go to the front of `out`.
-pub fn fold(journal: &[u8], out: &mut [u8]) -> Result<Totals, Refused> {
+/// Folds a journal. The pending park records, [`PARK`] bytes each in the order of their texts, go to the front of `out`, and
+/// what lies past them stays as it was. [`ENOUGH`] bytes are never too short.
+///
+/// # Errors
+///
+/// Refusals 9 to 13, each with its offset; `out` stays as it was.
+///
+/// # Panics
+///
+/// If the library returns a code that the proved contract of `gap_quarantine_fold` rules out.
+pub fn fold(journal: &[u8], out: &mut [u8]) -> Result<Totals, Refusal> {
     let mut totals = [0u8; 40];
-    // The function reads and writes within the lengths that it is given; the slices cannot overlap.
+    // SAFETY: the function reads and writes within the lengths that it is given, and the slices cannot overlap.
     let code = unsafe {
-        gap_quarantine_fold(
-            journal.as_ptr(),
-            journal.len(),
-            out.as_mut_ptr(),
-            out.len(),
-            totals.as_mut_ptr(),
-            totals.len(),
-        )
+        gap_quarantine_fold(journal.as_ptr(), journal.len(), out.as_mut_ptr(), out.len(), totals.as_mut_ptr(), totals.len())
     };
     if code != 0 {
-        return Err(Refused { number: (code % 256) as u8, offset: code / 256 });
+        return Err(Refusal::of_fold(code));
     }
-    let [pending, skipped, migrated, degraded, end] = numbers(&totals);
+    let [pending, skipped, migrated, degraded, end] = numbers(&totals).map(|n| n as usize);
     Ok(Totals { pending, skipped, migrated, degraded, end })
 }
 
-/// Restores the frame of one park record's bytes, or says a refusal's number.
-pub fn restore(record: &[u8]) -> Result<Frame, u8> {
+/// Restores the frame of one park record's bytes, as a fold writes them.
+///
+/// # Errors
+///
+/// Refusals 11, 14, 15 and 16, without an offset.
+///
+/// # Panics
+///
+/// If the library returns a code that the proved contract of `gap_quarantine_restore` rules out.
+pub fn restore(record: &[u8]) -> Result<Frame, Refusal> {
     let mut frame = [0u8; 92];
-    // The function reads and writes within the lengths that it is given; the slices cannot overlap.
+    // SAFETY: the function reads and writes within the lengths that it is given, and the slices cannot overlap.
     let code = unsafe { gap_quarantine_restore(record.as_ptr(), record.len(), frame.as_mut_ptr(), frame.len()) };
     if code != 0 {
-        return Err(code as u8);
+        return Err(Refusal::of_restore(code));
     }
     let [expected, claim, chain_id, gas, ticket] = numbers(&frame[52..]);
     let (hash, from) = (frame[..32].try_into().unwrap(), frame[32..52].try_into().unwrap());

@@ -2,7 +2,7 @@
 
 mod records;
 
-use gap_quarantine_journal::{fold, Refused, Totals, ENOUGH};
+use gap_quarantine_journal::{fold, Refusal, Totals, ENOUGH};
 use records::{canonical, park, tagged};
 
 fn enter(hash: u8) -> Vec<u8> {
@@ -44,12 +44,8 @@ fn other() -> Vec<u8> {
     r
 }
 
-fn folded(journal: &[u8]) -> Result<Totals, Refused> {
+fn folded(journal: &[u8]) -> Result<Totals, Refusal> {
     fold(journal, &mut [0; ENOUGH])
-}
-
-fn refused(number: u8, offset: u64) -> Result<Totals, Refused> {
-    Err(Refused { number, offset })
 }
 
 #[test]
@@ -69,30 +65,30 @@ fn output_is_the_records() {
 
 #[test]
 fn input_over_the_limit() {
-    assert_eq!(folded(&vec![0; 65537]), refused(9, 65536));
+    assert_eq!(folded(&vec![0; 65537]), Err(Refusal::LongJournal { offset: 65536 }));
 }
 
 #[test]
 fn unknown_mark() {
-    assert_eq!(folded(&[other(), b"??".to_vec()].concat()), refused(10, 10));
+    assert_eq!(folded(&[other(), b"??".to_vec()].concat()), Err(Refusal::UnknownMark { offset: 10 }));
 }
 
 #[test]
 fn version_above_2() {
-    assert_eq!(folded(&[other(), park(&canonical(0xaa), 3)].concat()), refused(11, 10));
+    assert_eq!(folded(&[other(), park(&canonical(0xaa), 3)].concat()), Err(Refusal::BadRecord { offset: Some(10) }));
 }
 
 #[test]
 fn field_outside_its_layout() {
     let mut record = resolve(0xaa);
     record[38] = 5;
-    assert_eq!(folded(&record), refused(11, 0));
+    assert_eq!(folded(&record), Err(Refusal::BadRecord { offset: Some(0) }));
 }
 
 #[test]
 fn a_65th_key() {
     let parks: Vec<Vec<u8>> = (0..65).map(|n| park(&canonical(n), 2)).collect();
-    assert_eq!(folded(&parks.concat()), refused(12, 64 * 240));
+    assert_eq!(folded(&parks.concat()), Err(Refusal::PendingFull { offset: 64 * 240 }));
     assert_eq!(folded(&parks[..64].concat()).unwrap().pending, 64);
 }
 
@@ -100,7 +96,7 @@ fn a_65th_key() {
 fn output_too_short() {
     let journal = park(&canonical(0xaa), 2);
     let mut out = [7; 239];
-    assert_eq!(fold(&journal, &mut out), refused(13, 240));
+    assert_eq!(fold(&journal, &mut out), Err(Refusal::ShortOutput { offset: 240 }));
     assert!(out.iter().all(|b| *b == 7));
 }
 
@@ -122,8 +118,8 @@ fn cut_at_every_byte() {
         let mut whole_out = [0; ENOUGH];
         let totals = fold(&journal[..cut], &mut cut_out).unwrap();
         assert_eq!(totals, fold(&journal[..whole], &mut whole_out).unwrap());
-        assert_eq!(totals.end, whole as u64);
+        assert_eq!(totals.end, whole);
         assert!(cut_out == whole_out);
     }
-    assert_eq!(folded(&journal), Ok(Totals { pending: 2, skipped: 1, migrated: 1, degraded: 1, end: journal.len() as u64 }));
+    assert_eq!(folded(&journal), Ok(Totals { pending: 2, skipped: 1, migrated: 1, degraded: 1, end: journal.len() }));
 }

@@ -2,7 +2,7 @@
 
 mod records;
 
-use gap_quarantine_journal::{restore, Frame};
+use gap_quarantine_journal::{restore, Frame, Refusal};
 use records::{canonical, park};
 
 // where a park record has its fields
@@ -53,30 +53,30 @@ fn the_version_does_not_matter() {
 
 #[test]
 fn not_one_park_in_its_layout() {
-    assert_eq!(restore(&[]), Err(11));
-    assert_eq!(restore(&full()[..239]), Err(11));
-    assert_eq!(restore(&[full(), vec![0]].concat()), Err(11));
+    assert_eq!(restore(&[]), Err(Refusal::BadRecord { offset: None }));
+    assert_eq!(restore(&full()[..239]), Err(Refusal::BadRecord { offset: None }));
+    assert_eq!(restore(&[full(), vec![0]].concat()), Err(Refusal::BadRecord { offset: None }));
     let mut record = full();
     record[WIRE] = 2;
-    assert_eq!(restore(&record), Err(11));
+    assert_eq!(restore(&record), Err(Refusal::BadRecord { offset: None }));
 }
 
 #[test]
 fn a_text_that_does_not_parse() {
-    assert_eq!(restore(&park(b"0x", 2)), Err(14));
+    assert_eq!(restore(&park(b"0x", 2)), Err(Refusal::BadHashText));
 }
 
 #[test]
 fn degraded_without_a_sender() {
-    assert_eq!(restore(&without(degraded(), SENDER)), Err(15));
+    assert_eq!(restore(&without(degraded(), SENDER)), Err(Refusal::NoSender));
 }
 
 #[test]
 fn full_without_from_or_wire() {
-    assert_eq!(restore(&without(full(), FROM)), Err(16));
+    assert_eq!(restore(&without(full(), FROM)), Err(Refusal::NoWire));
     let mut record = full();
     record[WIRE] = 0;
-    assert_eq!(restore(&record), Err(16));
+    assert_eq!(restore(&record), Err(Refusal::NoWire));
 }
 
 extern "C" {
