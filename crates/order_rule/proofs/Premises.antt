@@ -2,25 +2,26 @@
 use Prim.Native.Nat.{ℕ, zero, suc}
 use mathlib.Core.Path.{_≡_, refl, sym, ap, _∙_}
 use mathlib.Core.Bool.{Bool, true, false, _&&_, not, cond}
-use mathlib.Core.List.{List, [], List·Memᴰ}
+use mathlib.Core.List.{List, [], _∷_, List·Memᴰ}
 use mathlib.Core.Option.{Option, none, some}
 use borrow.Author.Tests.{eqb-false, not-false}
 use lib.Dec.{eqb}
-use lib.ListN.{length}
+use lib.ListN.{length, replicate}
 use Rattle.lists.specs.Bytes.{Bytes, eqBytes, leBytes}
 use Rattle.lists.specs.Lists
 use Rattle.lists.specs.Lists.{keep}
-use Rattle.lists.proofs.ByteOrder.{eqBytes-true}
+use Rattle.lists.proofs.ByteOrder.{clash, eqBytes-true}
 use Rattle.lists.proofs.Elements.{keep-none}
-use Rattle.store_rules.specs.Frames.{Frame, Entry, degraded}
+use Rattle.store_rules.specs.Frames.{Frame, Entry, Guard, degraded}
 use Rattle.store_rules.specs.Poll
+use Rattle.store_rules.specs.Poll.{boundaryHolds}
 use Rattle.store_rules.specs.Rules
 use Rattle.store_rules.specs.Store
-use Rattle.store_rules.specs.Store.{empty, isTracked, Call, push, Answer, Request, run, calls}
+use Rattle.store_rules.specs.Store.{empty, guardOf, isGuarded, isTracked, Call, push, Answer, Request, run, calls}
 use Rattle.order_rule.specs.Orders
-use Rattle.order_rule.specs.Orders.{Key, sender, pushOf, ownerIn, keyBy, OneSender, Keyed, nothing, also, rest, cut, transcript, aboutRoom, EnoughRoom}
+use Rattle.order_rule.specs.Orders.{Key, sender, alone, pushOf, ownerIn, keyBy, OneSender, Keyed, nothing, also, rest, cut, transcript, aboutRoom, EnoughRoom}
 use Rattle.order_rule.specs.Premises
-use Rattle.order_rule.specs.Premises.{InTwoOrders, BothHaveRoom, StoresDiffer, a, b, h, i, frame, parks, parksOf, enterBefore, enterAfter, finalityLast, finalityBetween, pollAfter, pollBefore, evictFirst, evictLast, aThenB, bBetween, Premises}
+use Rattle.order_rule.specs.Premises.{InTwoOrders, BothHaveRoom, StoresDiffer, a, b, h, i, frame, parks, parksOf, guardsOf, enterBefore, enterAfter, finalityLast, finalityBetween, reorgLast, reorgBetween, pollAfter, pollBefore, fiveThenSix, sixThenFive, evictFirst, evictLast, pollShort, dropFirst, dropLast, aThenB, bBetween, Premises}
 use Rattle.order_rule.proofs.Swap.{swap}
 use Rattle.order_rule.proofs.Theorem.{order-rule}
 
@@ -45,10 +46,19 @@ one-sender named cs e f g m n q = sym (fits f m) ∙ ap named q ∙ fits g n
 apart : (p : Entry → Bool) (xs ys : List Request) → eqb (length (keep p (run empty xs .entries))) (length (keep p (run empty ys .entries))) ≡ false → StoresDiffer xs ys
 apart p xs ys n e = eqb-false _ _ n (ap (λ (l : List Entry). length (keep p l)) (e .entries))
 
+-- the runs leave different guards of a hash, as a test tells
+apart-guards : (p : Option Guard → Bool) (k : Bytes) (xs ys : List Request) → p (guardOf k (run empty xs .guards)) ≡ true → p (guardOf k (run empty ys .guards)) ≡ false → StoresDiffer xs ys
+apart-guards p k xs ys t f e = clash t (ap p (e .guards k) ∙ f)
+
+-- a guard stands, and for this expected nonce its boundary holds
+hasBoundary : ℕ → Option Guard → Bool
+hasBoundary n none = false
+hasBoundary n (some g) = boundaryHolds (g .kind) n
+
 -- ---- the claims
 
 pub premises : Premises
-unfolding Store.refusal run empty Store.step Store.unless Store.orElse Store.inputRefusal Store.roomRefusal Store.rowWidth Store.effect Store.walk Store.walked Store.insert Store.fresh Store.enterFirst Store.anyEnters Store.enters Store.enterWith isTracked Store.guardOf Store.dropGuard Store.after Store.when Store.wideGap Store.badContent Store.listed Store.entriesOf calls keep Lists.isEmpty Lists.isIn eqBytes leBytes degraded Poll.numbersFrom Poll.gap Poll.predecessors Poll.unknown Poll.guardMatches Poll.stay Poll.leave Poll.pollFull Poll.pollIn Poll.pollGiven Poll.pollRule Rules.onlyOf Rules.evictRule Rules.differs Rules.reorgIn Rules.reorgRule Rules.finalIn Rules.finalRule keyBy ownerIn Orders.ownerBy pushOf transcript Orders.shown aboutRoom Orders.eqKey Orders.isFor Orders.ofKey misfits a b h i frame Premises.ask parks parksOf Premises.enters100 Premises.finalized100 Premises.polls enterBefore enterAfter finalityLast finalityBetween pollAfter pollBefore evictFirst evictLast aThenB bBetween
+unfolding Store.refusal run empty Store.step Store.unless Store.orElse Store.inputRefusal Store.roomRefusal Store.rowWidth Store.effect Store.walk Store.walked Store.insert Store.fresh Store.enterFirst Store.anyEnters Store.enters Store.enterWith isTracked guardOf isGuarded Store.dropGuard Store.putGuard Store.after Store.when Store.wideGap Store.badContent Store.badContents Store.noRoomFor Store.listed Store.entriesOf calls keep Lists.isEmpty Lists.isIn eqBytes leBytes degraded Poll.numbersFrom Poll.gap Poll.predecessors Poll.unknown boundaryHolds Poll.guardMatches Poll.stay Poll.leave Poll.pollFull Poll.pollIn Poll.pollGiven Poll.pollRule Rules.onlyOf Rules.evictRule Rules.differs Rules.reorgIn Rules.reorgRule Rules.finalIn Rules.finalRule keyBy ownerIn Orders.ownerBy pushOf transcript Orders.shown aboutRoom Orders.eqKey Orders.isFor Orders.ofKey misfits hasBoundary a b h i frame Premises.ask parks parksOf Premises.enters100 Premises.finalized100 Premises.reorganised100 Premises.polls Premises.guards guardsOf enterBefore enterAfter finalityLast finalityBetween reorgLast reorgBetween pollAfter pollBefore fiveThenSix sixThenFive evictFirst evictLast pollShort dropFirst dropLast aThenB bBetween
 premises = record {
   oneSender = (
     rest (swap (keyBy (ownerIn (calls enterBefore))) _ _ (sender b) (sender a) refl refl refl (also (sender b) refl nothing) nothing),
@@ -61,16 +71,40 @@ premises = record {
     (room finalityLast refl, room finalityBetween refl),
     apart (λ e. true) finalityLast finalityBetween refl,
   );
+  reorganisation = (
+    λ k. refl,
+    one-sender (λ x. a) (calls reorgLast) refl,
+    (room reorgLast refl, room reorgBetween refl),
+    apart (λ e. isTracked (e .standing .state)) reorgLast reorgBetween refl,
+  );
   sendersOrder = (
     one-sender (λ x. a) (calls pollAfter) refl,
     (room pollAfter refl, room pollBefore refl),
     apart (λ e. true) pollAfter pollBefore refl,
   );
-  room = (
+  unpushedOrder = (
+    λ from. refl,
+    one-sender (λ x. a) (calls fiveThenSix) refl,
+    (room fiveThenSix refl, room sixThenFive refl),
+    apart-guards (hasBoundary 6) h fiveThenSix sixThenFive refl refl,
+  );
+  room2 = (
     rest (swap (keyBy (ownerIn (calls evictFirst))) _ _ (sender a) (sender b) refl refl refl (parked 64) nothing),
     one-sender (λ x. cond (eqBytes x h) a b) (calls evictFirst) refl,
-    room evictFirst refl,
+    (room evictFirst refl, refl),
     apart (λ e. true) evictFirst evictLast refl,
+  );
+  room5 = (
+    rest (record { keyed = (asked, asked); same = λ k. refl }),
+    one-sender (λ x. a) (calls pollAfter) refl,
+    (room pollAfter refl, refl),
+    apart (λ e. true) pollAfter pollShort refl,
+  );
+  room8 = (
+    rest (swap (keyBy (ownerIn (calls dropFirst))) _ _ (sender a) (alone i) refl refl refl (also (sender a) refl (also (sender a) refl (guarded 63))) nothing),
+    one-sender (λ x. a) (calls dropFirst) refl,
+    (room dropFirst refl, refl),
+    apart-guards isGuarded i dropFirst dropLast refl refl,
   );
   together = together;
   sameStores = order-rule aThenB bBetween (together .0) (together .1) (together .2 .0) (together .2 .1) .0;
@@ -79,6 +113,13 @@ premises = record {
     parked : (n : ℕ) → Keyed (keyBy (ownerIn (calls evictFirst))) (calls (parksOf n))
     parked zero = nothing
     parked (suc n) = also (sender a) refl (parked n)
+
+    asked : Keyed (keyBy (ownerIn (calls pollAfter))) (calls pollAfter)
+    asked = also (sender a) refl (also (sender a) refl nothing)
+
+    guarded : (n : ℕ) → Keyed (keyBy (ownerIn (calls dropFirst))) (calls (guardsOf n))
+    guarded zero = nothing
+    guarded (suc n) = also (alone (9 ∷ n ∷ replicate 30 9)) refl (guarded n)
 
     keyOf : Call → Option Key
     keyOf = keyBy (ownerIn (calls aThenB))
