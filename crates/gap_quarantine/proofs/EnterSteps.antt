@@ -4,13 +4,14 @@ use native.Mathlib.Omega.{arith}
 use mathlib.Core.Path.{_≡_, refl, sym, ap, _∙_}
 use mathlib.Core.Bool.{Bool, true, false, _||_, cond}
 use mathlib.Core.List.{List, [], _∷_, map}
+use mathlib.Core.Option.{orElse}
 use lib.ListN.{length, take, getD, set, length-take, length-set}
 use lib.Seq.{take-set-lt, getD-take}
 use Rattle.lists.specs.Bytes.{Bytes}
 use Rattle.lists.specs.Search.{firstAt}
 use Rattle.lists.proofs.Compacting.{clamp}
 use Rattle.store_rules.specs.Frames.{Consumed, Entry}
-use Rattle.store_rules.specs.Store.{enters, enterWith, enterFirst, anyEnters, dropGuard, enterTentative, effect, inputRefusal, roomRefusal, refusal, orElse, unless, step}
+use Rattle.store_rules.specs.Store.{enters, enterWith, enterFirst, anyEnters, dropGuard, enterTentative, effect, inputRefusal, roomRefusal, refusal, unless, step}
 use Rattle.store_rules.specs.Answers.{said, numbersOf, bytesOf}
 use Rattle.store_rules.specs.View.{entryOf, labelsOf, liveOf, guardsSeen, Bodies}
 use Rattle.gap_quarantine.specs.Contracts.{Always}

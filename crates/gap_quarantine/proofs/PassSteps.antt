@@ -4,6 +4,7 @@ use native.Mathlib.Omega.{arith}
 use mathlib.Core.Path.{_≡_, refl, sym, ap, ap₂, _∙_}
 use mathlib.Core.Bool.{Bool, true, false, _||_, true≢false}
 use mathlib.Core.List.{List, [], _∷_, map}
+use mathlib.Core.Option.{orElse}
 use lib.Dec.{ltb}
 use lib.ListN.{length, take, length-map}
 use borrow.Author.Tests.{le-ltb, ltb-false}
@@ -13,7 +14,7 @@ use Rattle.refusal.specs.declared.Refusal.{Refusal}
 use Rattle.refusal.specs.declared.Refusal.the-variants.{ShortSlice}
 use Rattle.store_rules.specs.Frames.{Entry, Guard}
 use Rattle.store_rules.specs.Rules.{onlyOf, evictRule, reorgRule, finalRule}
-use Rattle.store_rules.specs.Store.{Store, Call, long, Answer, frames, dead, Walked, walk, walked, effect, inputRefusal, roomRefusal, refusal, orElse, when, unless, listed, step}
+use Rattle.store_rules.specs.Store.{Store, Call, long, Answer, frames, dead, Walked, walk, walked, effect, inputRefusal, roomRefusal, refusal, when, unless, listed, step}
 use Rattle.store_rules.specs.Answers.{saysFrames, saysDead, said, numbersOf, bytesOf, ticketNumbers, deadNumbers, deadBytes}
 use Rattle.store_rules.specs.View.{entriesSeen, hashOf, guardsSeen, heldView, labelsOf, liveOf, Bodies}
 use Rattle.store_rules.proofs.Walking.{Ends}

@@ -3,7 +3,7 @@ use Prim.Native.Nat.{ℕ, _*_, _≤_, _<_}
 use native.Mathlib.Omega.{arith}
 use mathlib.Core.Path.{_≡_, refl, ap, ap₂, _∙_}
 use mathlib.Core.Bool.{Bool, true, false, _||_, not}
-use mathlib.Core.Option.{Option, some}
+use mathlib.Core.Option.{Option, some, orElse}
 use mathlib.Core.List.{List, []}
 use lib.Dec.{eqb, ltb}
 use lib.ListN.{length, take}
@@ -14,7 +14,7 @@ use Rattle.refusal.specs.declared.Refusal.the-variants.{ManyKnown, BadContent, 
 use Rattle.store_rules.specs.Frames.{Entry, Guard, Row}
 use Rattle.store_rules.specs.Poll.{Content, pollRule}
 use Rattle.store_rules.specs.Rules.{onlyOf}
-use Rattle.store_rules.specs.Store.{Call, poll, long, rowWidth, walk, walked, effect, entriesOf, when, orElse, badContent, inputRefusal, roomRefusal, refusal, unless, step}
+use Rattle.store_rules.specs.Store.{Call, poll, long, rowWidth, walk, walked, effect, entriesOf, when, badContent, inputRefusal, roomRefusal, refusal, unless, step}
 use Rattle.store_rules.specs.Answers.{rowNumbers, numbersOf, bytesOf, saysRows, said}
 use Rattle.store_rules.specs.View.{entriesSeen, guardsSeen, contentOf, labelsOf, liveOf, Bodies}
 use Rattle.store_rules.proofs.Walking.{Ends}

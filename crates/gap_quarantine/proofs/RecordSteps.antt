@@ -3,12 +3,13 @@ use Prim.Native.Nat.{ℕ, _≤_, _<_}
 use mathlib.Core.Path.{_≡_, refl}
 use mathlib.Core.Bool.{true, false}
 use mathlib.Core.List.{List}
+use mathlib.Core.Option.{orElse}
 use lib.ListN.{length}
 use borrow.Author.Tests.{lt-ltb, le-ltb}
 use Rattle.lists.specs.Bytes.{Bytes}
 use Rattle.refusal.specs.declared.Refusal.the-variants.{ManyPredecessors, BadGuardContent, GuardsFull}
 use Rattle.store_rules.specs.Frames.{Guard}
-use Rattle.store_rules.specs.Store.{guard, badContents, effect, inputRefusal, roomRefusal, refusal, orElse, when, unless, step}
+use Rattle.store_rules.specs.Store.{guard, badContents, effect, inputRefusal, roomRefusal, refusal, when, unless, step}
 use Rattle.store_rules.specs.Answers.{said, numbersOf, bytesOf}
 use Rattle.store_rules.specs.declared.Held.{Held}
 use Rattle.guards.specs.Recording.{Records}

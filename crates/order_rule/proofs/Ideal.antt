@@ -4,7 +4,7 @@ use Prim.Native.Nat.{ℕ, suc}
 use mathlib.Core.Path.{_≡_, refl, sym, ap, _∙_, subst, fun-ext}
 use mathlib.Core.Bool.{Bool, true, false, not, cond}
 use mathlib.Core.List.{List, [], _∷_, _++_, List·Memᴰ·head, List·Memᴰ·tail}
-use mathlib.Core.Option.{Option, none, some}
+use mathlib.Core.Option.{Option, none, some, orElse}
 use lib.ListN.{length}
 use Rattle.lists.specs.Bytes.{Bytes, eqBytes}
 use Rattle.lists.proofs.ByteOrder.{eqBytes-of, eqBytes-true, eqBytes-refl, clash}
@@ -12,7 +12,7 @@ use Rattle.store_rules.specs.Frames.{Frame, Entry, Guard, Visit}
 use Rattle.store_rules.specs.Poll.{pollRule}
 use Rattle.store_rules.specs.Rules.{onlyOf, evictRule, reorgRule, finalRule}
 use Rattle.lists.specs.Lists.{keep}
-use Rattle.store_rules.specs.Store.{Store, RowForm, SameStore, guardOf, dropGuard, putGuard, Call, push, poll, guard, enterTentative, evictSender, checkReorg, checkFinalized, Answer, total, rows, recorded, entered, frames, dead, refused, after, walk, walked, insert, fresh, enterFirst, anyEnters, effect, when, orElse, inputRefusal, roomRefusal, unless, Request, refusal, step, run, calls}
+use Rattle.store_rules.specs.Store.{Store, RowForm, SameStore, guardOf, dropGuard, putGuard, Call, push, poll, guard, enterTentative, evictSender, checkReorg, checkFinalized, Answer, total, rows, recorded, entered, frames, dead, refused, after, walk, walked, insert, fresh, enterFirst, anyEnters, effect, when, inputRefusal, roomRefusal, unless, Request, refusal, step, run, calls}
 use Rattle.order_rule.specs.Orders.{shown, transcript, aboutRoom, EnoughRoom}
 
 abbrev pub Guards : Type 0

@@ -3,7 +3,7 @@ use Prim.Native.Nat.{ℕ, zero, suc}
 use mathlib.Core.Path.{_≡_, refl, sym, ap, _∙_}
 use mathlib.Core.Bool.{Bool, true, false, _&&_, not, cond}
 use mathlib.Core.List.{List, [], _∷_, List·Memᴰ}
-use mathlib.Core.Option.{Option, none, some}
+use mathlib.Core.Option.{Option, none, some, orElse}
 use borrow.Author.Tests.{eqb-false, not-false}
 use lib.Dec.{eqb}
 use lib.ListN.{length, replicate}
@@ -58,7 +58,7 @@ hasBoundary n (some g) = boundaryHolds (g .kind) n
 -- ---- the claims
 
 pub premises : Premises
-unfolding Store.refusal run empty Store.step Store.unless Store.orElse Store.inputRefusal Store.roomRefusal Store.rowWidth Store.effect Store.walk Store.walked Store.insert Store.fresh Store.enterFirst Store.anyEnters Store.enters Store.enterWith isTracked guardOf isGuarded Store.dropGuard Store.putGuard Store.after Store.when Store.wideGap Store.badContent Store.badContents Store.noRoomFor Store.listed Store.entriesOf calls keep Lists.isEmpty Lists.isIn eqBytes leBytes degraded Poll.numbersFrom Poll.gap Poll.predecessors Poll.unknown boundaryHolds Poll.guardMatches Poll.stay Poll.leave Poll.pollFull Poll.pollIn Poll.pollGiven Poll.pollRule Rules.onlyOf Rules.evictRule Rules.differs Rules.reorgIn Rules.reorgRule Rules.finalIn Rules.finalRule keyBy ownerIn Orders.ownerBy pushOf transcript Orders.shown aboutRoom Orders.eqKey Orders.isFor Orders.ofKey misfits hasBoundary a b h i frame Premises.ask parks parksOf Premises.enters100 Premises.finalized100 Premises.reorganised100 Premises.polls Premises.guards guardsOf enterBefore enterAfter finalityLast finalityBetween reorgLast reorgBetween pollAfter pollBefore fiveThenSix sixThenFive evictFirst evictLast pollShort dropFirst dropLast aThenB bBetween
+unfolding Store.refusal run empty Store.step Store.unless orElse Store.inputRefusal Store.roomRefusal Store.rowWidth Store.effect Store.walk Store.walked Store.insert Store.fresh Store.enterFirst Store.anyEnters Store.enters Store.enterWith isTracked guardOf isGuarded Store.dropGuard Store.putGuard Store.after Store.when Store.wideGap Store.badContent Store.badContents Store.noRoomFor Store.listed Store.entriesOf calls keep Lists.isEmpty Lists.isIn eqBytes leBytes degraded Poll.numbersFrom Poll.gap Poll.predecessors Poll.unknown boundaryHolds Poll.guardMatches Poll.stay Poll.leave Poll.pollFull Poll.pollIn Poll.pollGiven Poll.pollRule Rules.onlyOf Rules.evictRule Rules.differs Rules.reorgIn Rules.reorgRule Rules.finalIn Rules.finalRule keyBy ownerIn Orders.ownerBy pushOf transcript Orders.shown aboutRoom Orders.eqKey Orders.isFor Orders.ofKey misfits hasBoundary a b h i frame Premises.ask parks parksOf Premises.enters100 Premises.finalized100 Premises.reorganised100 Premises.polls Premises.guards guardsOf enterBefore enterAfter finalityLast finalityBetween reorgLast reorgBetween pollAfter pollBefore fiveThenSix sixThenFive evictFirst evictLast pollShort dropFirst dropLast aThenB bBetween
 premises = record {
   oneSender = (
     rest (swap (keyBy (ownerIn (calls enterBefore))) _ _ (sender b) (sender a) refl refl refl (also (sender b) refl nothing) nothing),

@@ -4,7 +4,7 @@ use native.Mathlib.Omega.{arith}
 use mathlib.Core.Path.{_≡_, refl, sym, ap, subst}
 use mathlib.Core.Bool.{Bool, true, false, _&&_, not, cond, true≢false}
 use mathlib.Core.List.{List, [], _∷_}
-use mathlib.Core.Option.{Option, none, some, Option·none-ne-some}
+use mathlib.Core.Option.{Option, none, some, orElse, Option·none-ne-some}
 use lib.Dec.{leb}
 use lib.ListN.{length}
 use borrow.Author.Tests.{leb-false}
@@ -13,7 +13,7 @@ use Rattle.lists.specs.Lists.{keep, isEmpty, Each}
 use Rattle.lists.proofs.ByteOrder.{eqBytes-true}
 use Rattle.lists.proofs.Elements.{length-keep}
 use Rattle.store_rules.specs.Frames.{Frame, Entry, Guard, Visit}
-use Rattle.store_rules.specs.Store.{Store, RowForm, empty, Call, push, poll, guard, enterTentative, checkReorg, checkFinalized, evictSender, Request, Answer, guardOf, dropGuard, putGuard, walk, walked, insert, fresh, anyEnters, effect, when, orElse, wideGap, noRoomFor, inputRefusal, roomRefusal, refusal, unless, step, run}
+use Rattle.store_rules.specs.Store.{Store, RowForm, empty, Call, push, poll, guard, enterTentative, checkReorg, checkFinalized, evictSender, Request, Answer, guardOf, dropGuard, putGuard, walk, walked, insert, fresh, anyEnters, effect, when, wideGap, noRoomFor, inputRefusal, roomRefusal, refusal, unless, step, run}
 use Rattle.order_rule.proofs.Ideal.{Ideal, view, seen, effectᵢ, effect-view}
 use Rattle.order_rule.proofs.Invariant.{Thinner, nothing, skip, also, thinner-each, insert-each, Change, thinned, inserted, change}
 use Rattle.order_rule.proofs.Theorem.{run-sorted}

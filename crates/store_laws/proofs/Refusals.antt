@@ -3,10 +3,10 @@ use Prim.Native.Nat.{ℕ}
 use mathlib.Core.Path.{_≡_, refl, sym, subst}
 use mathlib.Core.Bool.{Bool, true, false}
 use mathlib.Core.List.{List, [], _∷_}
-use mathlib.Core.Option.{Option, none, some, Option·some-injective, Option·none-ne-some}
+use mathlib.Core.Option.{Option, none, some, orElse, Option·some-injective, Option·none-ne-some}
 use Rattle.lists.specs.Lists.{isIn}
 use Rattle.lists.proofs.ByteOrder.{clash}
-use Rattle.store_rules.specs.Store.{Store, RowForm, Call, push, poll, guard, enterTentative, checkReorg, checkFinalized, evictSender, when, orElse, inputRefusal, roomRefusal, refusal, unless, step}
+use Rattle.store_rules.specs.Store.{Store, RowForm, Call, push, poll, guard, enterTentative, checkReorg, checkFinalized, evictSender, when, inputRefusal, roomRefusal, refusal, unless, step}
 use Rattle.queries.specs.Queries.{blocksRefusal, sendersRefusal, gapRefusal}
 use Rattle.store_laws.specs.Refusals.{placeNumbers, RefusedByPlace, RefusedByInputs, ReadingRefused, RefusedChangesNothing}
 

@@ -3,7 +3,7 @@ use Prim.Native.Nat.{ℕ, suc, _*_, _-_, _%_}
 use mathlib.Core.Path.{_≡_}
 use mathlib.Core.Bool.{Bool, true, false, _&&_, _||_, not, cond}
 use mathlib.Core.List.{List, [], _∷_, _++_}
-use mathlib.Core.Option.{Option, none, some}
+use mathlib.Core.Option.{Option, none, some, orElse}
 use lib.Dec.{eqb, leb, ltb}
 use lib.ListN.{length}
 use Rattle.lists.specs.Bytes.{Bytes, eqBytes, leBytes}
@@ -172,10 +172,6 @@ effect s (evictSender a) = walked (walk (onlyOf a evictRule) (s .entries) (s .gu
 unfoldable pub when : Bool → ℕ → Option ℕ
 when true n = some n
 when false n = none
-
-unfoldable pub orElse : Option ℕ → Option ℕ → Option ℕ
-orElse (some n) o = some n
-orElse none o = o
 
 -- 1: claim exceeds expected by more than 16
 unfoldable pub wideGap : Frame → Bool
