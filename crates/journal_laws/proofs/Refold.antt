@@ -9,9 +9,9 @@ use lib.Dec.{eqb}
 use lib.ListN.{length, take, length-append}
 use lib.Seq.{take-at, drop-at}
 use borrow.Author.Tests.{le-ltb, eq-eqb}
-use Rattle.lists.specs.Bytes.{Bytes, eqBytes, leBytes}
+use Rattle.lists.specs.Bytes.{Bytes, eqBytes, Before}
 use Rattle.lists.specs.Lists.{Each, collect}
-use Rattle.lists.proofs.ByteOrder.{clash, eqBytes-of, leBytes-antisym, eqBytes-sym}
+use Rattle.lists.proofs.ByteOrder.{eqBytes-of, eqBytes-sym, before-not-after}
 use Rattle.lists.proofs.Keeping.{each-append, each-map}
 use Rattle.wire.specs.HashText.{parseHash}
 use Rattle.layout.specs.Layout.{join}
@@ -21,7 +21,7 @@ use Rattle.journal_record.specs.Writing.{parkFields, parkBytes}
 use Rattle.gap_quarantine_journal.specs.Pending.{putPark, isNonZero, isFull, fullOr, settledFidelity}
 use Rattle.gap_quarantine_journal.specs.Fold.{Folded, begin, read, keep64, applyPark, apply, stepWhole, stepOf, folded, after, foldFrom, output}
 use Rattle.gap_quarantine_journal.specs.Restore.{refused, restoreDegraded, restoreFull, restoreAs, restoreHash, restorePark, isPark, restore}
-use Rattle.journal_laws.specs.Keys.{Before, Ascending}
+use Rattle.journal_laws.specs.Keys.{Ascending}
 use Rattle.journal_laws.specs.Refolding.{Refolding, NoSixteen}
 use Rattle.journal_laws.proofs.Steps.{sizes, step-whole}
 use Rattle.journal_laws.proofs.Folds.{fold-none, folds, folds-of}
@@ -67,14 +67,7 @@ unfolding putPark
 put-last [] p ps h = refl
 put-last (q ∷ qs) p ps h =
     let b = each-append (λ x. Before (q .text) (x .text)) qs (p ∷ ps) (h .0) .1 .0 in
-    rw (eqBytes-sym (p .text) (q .text), b .1, not-before (q .text) (p .text) b, put-last qs p ps (h .1))
-  where
-    not-before : (x y : Bytes) → Before x y → leBytes y x ≡ false
-    not-before x y b = go (leBytes y x) refl
-      where
-        go : (t : Bool) → leBytes y x ≡ t → t ≡ false
-        go true e = clash (eqBytes-of x y (leBytes-antisym x y (b .0) e)) (b .1)
-        go false e = refl
+    rw (eqBytes-sym (p .text) (q .text), b .1, before-not-after (q .text) (p .text) b, put-last qs p ps (h .1))
 
 -- ---- the whole output
 

@@ -1,4 +1,4 @@
--- The laws of `eqBytes` and `leBytes`: an equality, and a total order, on all lists of numbers.
+-- The laws of `eqBytes` and `leBytes`, an equality and a total order on all lists of numbers, and of `Before`.
 use Prim.Native.Nat.{ℕ, _<_, _≤_}
 use mathlib.Core.Path.{_≡_, refl, sym, ap₂, _∙_, subst}
 use mathlib.Core.Logic.{_⊎_, inl, inr}
@@ -7,7 +7,7 @@ use mathlib.Core.List.{[], _∷_}
 use lib.Dec.{eqb, ltb}
 use borrow.Author.Tests.{eqb-true, eqb-false, eq-eqb, ne-eqb, ltb-true, ltb-false, lt-ltb, le-ltb}
 use native.Mathlib.Omega.{arith}
-use Rattle.lists.specs.Bytes.{Bytes, eqBytes, leBytes}
+use Rattle.lists.specs.Bytes.{Bytes, eqBytes, leBytes, Before}
 
 -- a test that both passes and fails proves anything
 pub clash {ℓ} : {X : Type ℓ} {b : Bool} → b ≡ true → b ≡ false → X
@@ -116,3 +116,17 @@ leBytes-total (x ∷ xs) (y ∷ ys) h = go (ltb x y) refl (eqb x y) refl h (leBy
       where
         differ : y ≤ x → (x ≡ y → ⊥) → y < x
         differ l n = omega arith
+
+pub before-not-after : (a b : Bytes) → Before a b → leBytes b a ≡ false
+before-not-after a b h = go (leBytes b a) refl
+  where
+    go : (t : Bool) → leBytes b a ≡ t → t ≡ false
+    go true e = clash (eqBytes-of a b (leBytes-antisym a b (h .0) e)) (h .1)
+    go false e = refl
+
+pub before-trans : (a b c : Bytes) → Before a b → Before b c → Before a c
+before-trans a b c h k = (leBytes-trans a b c (h .0) (k .0), go (eqBytes a c) refl)
+  where
+    go : (t : Bool) → eqBytes a c ≡ t → t ≡ false
+    go true e = clash (subst (λ (x : Bytes). leBytes b x ≡ true) (sym (eqBytes-true a c e)) (k .0)) (before-not-after a b h)
+    go false e = refl

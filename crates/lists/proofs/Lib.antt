@@ -5,6 +5,7 @@ pub mod Compacting
 pub mod Elements
 pub mod Keeping
 pub mod Listing
+pub mod Pairs
 pub mod Parts
 pub mod Pasting
 pub mod Same

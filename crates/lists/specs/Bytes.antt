@@ -1,5 +1,6 @@
 -- Byte strings: equality, and byte order in which a prefix comes first.
 use Prim.Native.Nat.{ℕ}
+use mathlib.Core.Path.{_≡_}
 use mathlib.Core.Bool.{Bool, true, false, _&&_, _||_}
 use mathlib.Core.List.{List, [], _∷_}
 use lib.Dec.{eqb, ltb}
@@ -19,6 +20,10 @@ unfoldable pub leBytes : Bytes → Bytes → Bool
 leBytes [] ys = true
 leBytes (x ∷ xs) [] = false
 leBytes (x ∷ xs) (y ∷ ys) = ltb x y || (eqb x y && leBytes xs ys)
+
+-- before, in byte order
+abbrev pub Before : Bytes → Bytes → Type 0
+Before a b = (leBytes a b ≡ true) × (eqBytes a b ≡ false)
 
 -- the same numbers
 abbrev pub eqNumbers : List ℕ → List ℕ → Bool

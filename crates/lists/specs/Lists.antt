@@ -1,4 +1,4 @@
--- Lists: what passes a test, what holds of every element, and a list written to the front of a slice.
+-- Lists: what passes a test, what holds of every element or of every two, and a list written to the front of a slice.
 use Prim.Native.Nat.{ℕ, zero, suc}
 use mathlib.Core.Bool.{Bool, true, false, _||_, cond}
 use mathlib.Core.List.{List, [], _∷_, _++_}
@@ -19,6 +19,11 @@ module _ {A : Type 0} where
   abbrev pub Each : (A → Type 0) → List A → Type 0
   Each P [] = Unit {0}
   Each P (x ∷ xs) = P x × Each P xs
+
+  -- every element stands in the relation R to each later one
+  abbrev pub Pairwise : (A → A → Type 0) → List A → Type 0
+  Pairwise R [] = Unit {0}
+  Pairwise R (x ∷ xs) = Each (R x) xs × Pairwise R xs
 
 -- what each element comes to, one after another
 unfoldable pub collect : {A B : Type 0} → (A → List B) → List A → List B

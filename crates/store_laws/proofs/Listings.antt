@@ -7,18 +7,17 @@ use mathlib.Core.List.{List, [], _∷_, _++_}
 use mathlib.Core.Option.{Option, some}
 use lib.Dec.{eqb, leb, ltb}
 use borrow.Author.Tests.{eqb-true, eq-eqb, leb-true, leb-false, ltb-true, ltb-false, le-leb, lt-leb, lt-ltb, le-ltb}
-use Rattle.lists.specs.Bytes.{Bytes, eqBytes, leBytes}
-use Rattle.lists.specs.Lists.{keep, isEmpty, Each, collect, isIn}
+use Rattle.lists.specs.Bytes.{Bytes, eqBytes, leBytes, Before}
+use Rattle.lists.specs.Lists.{keep, isEmpty, Each, Pairwise, collect, isIn}
 use Rattle.lists.proofs.ByteOrder.{eqBytes-true, clash}
 use Rattle.lists.proofs.Elements.{each-keep, each-join, in-append, in-keep}
+use Rattle.lists.proofs.Pairs.{pairwise-last}
 use Rattle.store_rules.specs.Frames.{State, tracked, tentative, Frame, Entry, degraded}
 use Rattle.store_rules.specs.Poll.{gap}
 use Rattle.store_rules.specs.Store.{empty, NotBefore, Sorted, isTracked, entriesOf, wideGap, run}
 use Rattle.queries.specs.Queries.{Block, putBlock, withBlock, blocksFrom, tentativeBlocks, isAmong, sendersFrom, senders, putNumber, putNumbers, window, poolKnownGap}
-use Rattle.store_laws.specs.Pairs.{Pairwise}
 use Rattle.store_laws.specs.Reachable.{Reachable}
-use Rattle.store_laws.specs.Listings.{hashOf, hashIn, lastHash, Below, inWindow, EveryListing}
-use Rattle.store_laws.proofs.Pairs.{pairwise-last}
+use Rattle.store_laws.specs.Listings.{hashOf, hashIn, lastHash, inWindow, EveryListing}
 use Rattle.store_laws.proofs.Placing.{put-ascending}
 use Rattle.store_laws.proofs.Gaps.{gap-is-whole}
 use Rattle.store_laws.proofs.Reachable.{every-run}
@@ -97,7 +96,7 @@ each-both P Q (x ∷ xs) h k = ((h .0, k .0), each-both P Q xs (h .1) (k .1))
 abbrev Listed : List Bytes → Entry → Type 0
 Listed seen e = Each (λ x. leBytes x (e .frame .from) ≡ true) seen
 
-senders-ascending : (seen : List Bytes) (es : List Entry) → Sorted es → Pairwise Below seen → Each (Listed seen) es → Pairwise Below (sendersFrom seen es)
+senders-ascending : (seen : List Bytes) (es : List Entry) → Sorted es → Pairwise Before seen → Each (Listed seen) es → Pairwise Before (sendersFrom seen es)
 unfolding sendersFrom
 senders-ascending seen [] s h l = h
 senders-ascending seen (e ∷ es) s h l = go (isAmong (e .frame .from) seen) refl (λ seen′. senders-ascending seen′ es (s .1))
@@ -109,12 +108,12 @@ senders-ascending seen (e ∷ es) s h l = go (isAmong (e .frame .from) seen) ref
     listed [] p q = tt
     listed (f ∷ fs) p q = (each-join (λ x. leBytes x (f .frame .from) ≡ true) seen (e .frame .from ∷ []) (q .0) (p .0, tt), listed fs (p .1) (q .1))
 
-    go : (b : Bool) → isAmong (e .frame .from) seen ≡ b → ((seen′ : List Bytes) → Pairwise Below seen′ → Each (Listed seen′) es → Pairwise Below (sendersFrom seen′ es)) →
-        Pairwise Below (sendersFrom (cond b seen more) es)
+    go : (b : Bool) → isAmong (e .frame .from) seen ≡ b → ((seen′ : List Bytes) → Pairwise Before seen′ → Each (Listed seen′) es → Pairwise Before (sendersFrom seen′ es)) →
+        Pairwise Before (sendersFrom (cond b seen more) es)
     go true p ih = ih seen h (l .1)
     go false p ih =
         ih more
-        (pairwise-last Below seen (e .frame .from) h
+        (pairwise-last Before seen (e .frame .from) h
         (each-both (λ x. leBytes x (e .frame .from) ≡ true) (λ x. eqBytes x (e .frame .from) ≡ false) seen (l .0) (none-from (e .frame .from) seen p)))
         (listed es (s .0) (l .1))
 

@@ -6,9 +6,8 @@ use mathlib.Core.Bool.{Bool, true, false, cond}
 use mathlib.Core.List.{List, [], _∷_}
 use lib.Dec.{eqb, ltb}
 use borrow.Author.Tests.{ltb-true, ltb-false, eqb-true, eqb-false}
-use Rattle.lists.specs.Lists.{Each}
+use Rattle.lists.specs.Lists.{Each, Pairwise}
 use Rattle.lists.proofs.Keeping.{each-map}
-use Rattle.store_laws.specs.Pairs.{Pairwise}
 
 -- `put` places by the number of an element; of two with the same number `of` stays
 module _ {A : Type 0} (number : A → ℕ) (of : A → A → A) (put : A → List A → List A)

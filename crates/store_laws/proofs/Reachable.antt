@@ -9,17 +9,16 @@ use lib.Dec.{leb}
 use lib.ListN.{length}
 use borrow.Author.Tests.{leb-false}
 use Rattle.lists.specs.Bytes.{Bytes, eqBytes, leBytes}
-use Rattle.lists.specs.Lists.{keep, isEmpty, Each}
+use Rattle.lists.specs.Lists.{keep, isEmpty, Each, Pairwise}
 use Rattle.lists.proofs.ByteOrder.{eqBytes-true}
 use Rattle.lists.proofs.Elements.{length-keep}
+use Rattle.lists.proofs.Pairs.{pairwise-keep}
 use Rattle.store_rules.specs.Frames.{Frame, Entry, Guard, Visit}
 use Rattle.store_rules.specs.Store.{Store, RowForm, empty, Call, push, poll, guard, enterTentative, checkReorg, checkFinalized, evictSender, Request, Answer, guardOf, dropGuard, putGuard, walk, walked, insert, fresh, anyEnters, effect, when, wideGap, noRoomFor, inputRefusal, roomRefusal, refusal, unless, step, run}
 use Rattle.order_rule.proofs.Ideal.{Ideal, view, seen, effectᵢ, effect-view}
 use Rattle.order_rule.proofs.Invariant.{Thinner, nothing, skip, also, thinner-each, insert-each, Change, thinned, inserted, change}
 use Rattle.order_rule.proofs.Theorem.{run-sorted}
-use Rattle.store_laws.specs.Pairs.{Pairwise}
 use Rattle.store_laws.specs.Reachable.{EveryRun}
-use Rattle.store_laws.proofs.Pairs.{pairwise-keep}
 
 -- ---- entries
 

@@ -1,4 +1,3 @@
-pub mod Pairs
 pub mod Refusals
 pub mod Reachable
 pub mod Listings

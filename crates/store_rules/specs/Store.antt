@@ -7,7 +7,7 @@ use mathlib.Core.Option.{Option, none, some, orElse}
 use lib.Dec.{eqb, leb, ltb}
 use lib.ListN.{length}
 use Rattle.lists.specs.Bytes.{Bytes, eqBytes, leBytes}
-use Rattle.lists.specs.Lists.{keep, isEmpty, Each}
+use Rattle.lists.specs.Lists.{keep, isEmpty, Pairwise}
 use Rattle.store_rules.specs.Frames.{Frame, Consumed, State, tracked, tentative, Standing, Entry, Guard, Row, Dead, Visit}
 use Rattle.store_rules.specs.Poll.{Content, pollRule}
 use Rattle.store_rules.specs.Rules.{onlyOf, evictRule, reorgRule, finalRule}
@@ -25,8 +25,7 @@ abbrev pub NotBefore : Bytes → Entry → Type 0
 NotBefore a e = leBytes a (e .frame .from) ≡ true
 
 abbrev pub Sorted : List Entry → Type 0
-Sorted [] = Unit {0}
-Sorted (e ∷ es) = Each (NotBefore (e .frame .from)) es × Sorted es
+Sorted = Pairwise (λ (e f : Entry). NotBefore (e .frame .from) f)
 
 -- ---- guards by hash
 

@@ -1,9 +1,8 @@
 -- The laws of `Pairwise`.
 use mathlib.Core.Bool.{Bool, true, false, cond}
 use mathlib.Core.List.{List, [], _∷_, _++_}
-use Rattle.lists.specs.Lists.{keep, Each}
+use Rattle.lists.specs.Lists.{keep, Each, Pairwise}
 use Rattle.lists.proofs.Elements.{each-keep, each-join}
-use Rattle.store_laws.specs.Pairs.{Pairwise}
 
 module _ {A : Type 0} (R : A → A → Type 0) where
   pub pairwise-keep : (p : A → Bool) (xs : List A) → Pairwise R xs → Pairwise R (keep p xs)
