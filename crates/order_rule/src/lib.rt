@@ -1,4 +1,1 @@
 // The order rule: what it claims is in specs/, its proof in proofs/. No code is added to the store's.
-pub struct Nothing {
-    pub none: bool,
-}

@@ -1,4 +1,1 @@
 // The laws of the store: what they claim is in specs/, their proofs in proofs/. No code is added to the store's.
-pub struct Nothing {
-    pub none: bool,
-}

@@ -1,4 +1,1 @@
 // Document 01's worked examples: claims in specs/, proofs in proofs/. No code is added.
-pub struct Nothing {
-    pub none: bool,
-}
