@@ -134,7 +134,7 @@ numbers-width OfSender e = refl
 numbers-width Reorganised e = refl
 numbers-width Finalized e = refl
 
-pub bytes-width : (by : Selecting) (e : Entry) → length (consumedIn (e .standing .state) .blockHash) ≡ 32 → length (takerHash (consumedIn (e .standing .state) .kind)) ≡ 32 →
+bytes-width : (by : Selecting) (e : Entry) → length (consumedIn (e .standing .state) .blockHash) ≡ 32 → length (takerHash (consumedIn (e .standing .state) .kind)) ≡ 32 →
     length (bytesFor by e) ≡ byteWidth by
 unfolding deadBytes
 bytes-width OfSender e h t = refl

@@ -48,7 +48,7 @@ module _ (b : Bytes) (k : ℕ) (h : k < 64) where
         rw (one-at b (33 * k + 32) 0 (omega arith), chunks-set 33 k 32 (0 ∷ []) b (omega arith) room 64 h, map-set labelOf (chunks 33 64 b) k, e)
 
     -- its bytes are written over
-    pub label-written : (v : Bytes) → length v ≡ 33 → labelsOf (writtenAt (33 * k) v b) ≡ set (labelsOf b) k (labelOf v)
+    label-written : (v : Bytes) → length v ≡ 33 → labelsOf (writtenAt (33 * k) v b) ≡ set (labelsOf b) k (labelOf v)
     label-written v e =
         rw
         (front-set 33 k v b (omega arith) room 64 h, map-set labelOf (chunks 33 64 b) k, written-whole v (take 33 (drop (33 * k) b)) (omega (arith, part-length 33 k b room)))

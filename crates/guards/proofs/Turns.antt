@@ -161,7 +161,7 @@ module _ (len : ℕ) (ls₀ : List GuardLabel) (bodies₀ : Bodies) (ls : List G
   next : (k : ℕ) → i + suc k ≡ i + 1 + k
   next k = omega arith
 
-  pub one-gone : getD ls i noLabel .live ≡ false → Moving len ls₀ bodies₀ ls bodies w (i + 1)
+  one-gone : getD ls i noLabel .live ≡ false → Moving len ls₀ bodies₀ ls bodies w (i + 1)
   unfolding liveOf liveCount
   one-gone y =
       record {
@@ -171,7 +171,7 @@ module _ (len : ℕ) (ls₀ : List GuardLabel) (bodies₀ : Bodies) (ls : List G
         so-far = (λ s. liveOf (take w ls) bodies ++ liveOf (drop (i + 1) (take len ls)) (λ k. bodies (sym (next k) s))) ∙ rw (left ls len i more fits, y) at (t .so-far);
       }
 
-  pub one-moved : (bodies′ : Bodies) → BodyPut w (bodies i) bodies bodies′ → getD ls i noLabel .live ≡ true →
+  one-moved : (bodies′ : Bodies) → BodyPut w (bodies i) bodies bodies′ → getD ls i noLabel .live ≡ true →
       Moving len ls₀ bodies₀ (set ls w (getD ls i noLabel)) bodies′ (w + 1) (i + 1)
   unfolding liveOf liveCount
   one-moved bodies′ put y =

@@ -57,12 +57,12 @@ take-written w o v m h b =
     ∙ rw (take-append-add v (drop (length v) (drop o m)) r))
 
 module _ (w k o : ℕ) (v l : List ℕ) (narrow : o + length v ≤ w) (room : w * k + w ≤ length l) where
-  pub part-here : part w k (writtenAt (w * k + o) v l) ≡ writtenAt o v (part w k l)
+  part-here : part w k (writtenAt (w * k + o) v l) ≡ writtenAt o v (part w k l)
   part-here =
       rw (drop-written (w * k) o v l (omega arith))
       (take-written w o v (drop (w * k) l) narrow (rw (length-drop (w * k) l) (omega arith)))
 
-  pub part-elsewhere : (j : ℕ) → (j ≡ k → ⊥) → part w j (writtenAt (w * k + o) v l) ≡ part w j l
+  part-elsewhere : (j : ℕ) → (j ≡ k → ⊥) → part w j (writtenAt (w * k + o) v l) ≡ part w j l
   part-elsewhere j n = go (ltb j k) refl
     where
       before : length (take (w * k + o) l) ≡ w * k + o

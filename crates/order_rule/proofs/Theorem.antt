@@ -122,7 +122,7 @@ module _ (owner : Bytes → Key) where
 
   -- ---- two orders, on a store
 
-  pub two-orders-from :
+  two-orders-from :
       (s : Store) → Good owner (view s) → (xs ys : List Request) → TwoOrders KeyOf (calls xs) (calls ys) → OwnedCalls (calls xs) → OwnedCalls (calls ys) →
       EnoughRoom s xs → EnoughRoom s ys → SameStore (run s xs) (run s ys) × TwoOrders KeyOfʰ (transcript s xs) (transcript s ys)
   two-orders-from s h xs ys t o p m n =

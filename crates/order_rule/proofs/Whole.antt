@@ -46,7 +46,7 @@ same-head e f es fs h k agree =
     (begins e es h (f .frame .from) (agree (f .frame .from) ∙ kept-first f fs (f .frame .from) refl))
     (begins f fs k (e .frame .from) (sym (agree (e .frame .from)) ∙ kept-first e es (e .frame .from) refl))
 
-pub sorted-ext : (es fs : List Entry) → Sorted es → Sorted fs → ((a : Bytes) → By a es ≡ By a fs) → es ≡ fs
+sorted-ext : (es fs : List Entry) → Sorted es → Sorted fs → ((a : Bytes) → By a es ≡ By a fs) → es ≡ fs
 unfolding keep
 sorted-ext [] [] h k agree = refl
 sorted-ext [] (f ∷ fs) h k agree = absurd (nil≢cons (agree (f .frame .from) ∙ kept-first f fs (f .frame .from) refl))

@@ -16,12 +16,12 @@ use Rattle.store_rules.specs.Poll.{Content, firstIs, contentsHold, conte
 
 -- ---- lists that are empty
 
-pub empty-is : {A : Type 0} (l : List A) → length l ≡ 0 → isEmpty l ≡ true
+empty-is : {A : Type 0} (l : List A) → length l ≡ 0 → isEmpty l ≡ true
 unfolding isEmpty
 empty-is [] e = refl
 empty-is (x ∷ xs) e = absurd (omega arith)
 
-pub filled-not-empty : {A : Type 0} (l : List A) → (length l ≡ 0 → ⊥) → isEmpty l ≡ false
+filled-not-empty : {A : Type 0} (l : List A) → (length l ≡ 0 → ⊥) → isEmpty l ≡ false
 unfolding isEmpty
 filled-not-empty [] n = absurd (n refl)
 filled-not-empty (x ∷ xs) n = refl
