@@ -2,8 +2,8 @@
 """Writes sample scripts for `replay`.
 
 samples/scripts.py life | target/bin/replay    one script: the life of document 01's frame
-samples/scripts.py | target/bin/replay         document 01's examples, each refusal of the store that slices long enough leave,
-                                               every call, and input that is not well formed
+samples/scripts.py | target/bin/replay         document 01's examples of the store, each of its refusals that slices long enough
+                                               leave, every call, and input that is not well formed
 """
 import struct
 import sys
