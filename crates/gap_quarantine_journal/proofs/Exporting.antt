@@ -12,12 +12,14 @@ use Rattle.wire.specs.Numbers.{digits}
 use Rattle.refusal.specs.Numbers.{refusalNumber}
 use Rattle.refusal.specs.declared.Refusal.{Refusal}
 use Rattle.refusal.specs.declared.Refusal.the-variants.{WideGap, StoreFull, ManyKnown, BadContent, ShortSlice, ManyPredecessors, BadGuardContent, GuardsFull, LongJournal, UnknownMark, BadRecord, PendingFull, ShortOutput, BadHashText, NoSender, NoWire}
+use Rattle.layout.specs.Layout.{size}
+use Rattle.journal_record.specs.Reading.{layoutOf, sizeOf}
 use Rattle.journal_record.specs.View.{parkSeen}
-use Rattle.gap_quarantine_journal.specs.Fold.{roomFor, foldJournal, output}
+use Rattle.gap_quarantine_journal.specs.Fold.{roomFor, foldJournal, foldInto, output}
 use Rattle.store_rules.specs.View.{frameOf}
 use Rattle.gap_quarantine_journal.specs.Restore.{restore}
 use Rattle.gap_quarantine_journal.specs.Export.{turnedAway, fiveTotals, exportedAs, exported, frameBytes, exportedFrameAs, exportedFrame}
-use Rattle.gap_quarantine_journal.specs.View.{parksSeen, FoldsRecords, restoredSeen}
+use Rattle.gap_quarantine_journal.specs.View.{parksSeen, Folds, Restores}
 use Rattle.gap_quarantine_journal.specs.declared.change.FoldOutcome.the-variants as outcome
 use Rattle.gap_quarantine_journal.specs.declared.fold.FoldedJournal.{FoldedJournal}
 use Rattle.gap_quarantine_journal.specs.declared.restore.RestoreAnswer.the-variants as answer
@@ -50,53 +52,48 @@ paste-at d at s n e = rw (take-all n s (omega arith), append-assoc (take at d) s
 
 -- ---- the fold's ways
 
-module _ (j out totals : Bytes) where
-  pub too-long : 65536 < length j → exported j out totals ≡ turnedAway 9 65536 out totals
-  unfolding exported foldJournal exportedAs
-  too-long h = rw (lt-ltb 65536 (length j) h)
+module _ (j out totals : Bytes) (f : FoldedJournal) (g : Folds (foldJournal j) f) (long : length (f .pending .parks) ≡ 64) where
+  count : length (parksSeen (f .pending)) ≡ f .pending .count
+  count = length-map (take (f .pending .count) (f .pending .parks)) parkSeen ∙ length-take-le (f .pending .count) (f .pending .parks) (omega (arith, g .few, long))
 
-  module _ (h : length j ≤ 65536) (f : FoldedJournal) (g : FoldsRecords j f) where
-    count : length (parksSeen (f .pending)) ≡ f .pending .count
-    count = length-map (take (f .pending .count) (f .pending .parks)) parkSeen ∙ length-take-le (f .pending .count) (f .pending .parks) (omega (arith, g .few, g .long))
+  pub was-refused : (x : Refusal) → f .outcome ≡ outcome.Refused x → exported j out totals ≡ turnedAway (refusalNumber x) (f .end) out totals
+  unfolding exported foldInto roomFor exportedAs
+  was-refused x o = rw (← g .is, o)
 
-    pub was-refused : (x : Refusal) → f .outcome ≡ outcome.Refused x → exported j out totals ≡ turnedAway (refusalNumber x) (f .end) out totals
-    unfolding exported foldJournal roomFor exportedAs
-    was-refused x o = rw (le-ltb 65536 (length j) h, ← g .is, o)
+  module _ (o : f .outcome ≡ outcome.Folded) where
+    pub no-room : length out < 240 * f .pending .count → exported j out totals ≡ turnedAway 13 (f .end) out totals
+    unfolding exported foldInto roomFor exportedAs sizeOf layoutOf size
+    no-room r =
+        let s : length out < 240 * length (parksSeen (f .pending)) = rw count r in
+        rw (← g .is, o, lt-ltb (length out) (240 * length (parksSeen (f .pending))) s)
 
-    module _ (o : f .outcome ≡ outcome.Folded) where
-      pub no-room : length out < 240 * f .pending .count → exported j out totals ≡ turnedAway 13 (f .end) out totals
-      unfolding exported foldJournal roomFor exportedAs
-      no-room r =
-          let s : length out < 240 * length (parksSeen (f .pending)) = rw count r in
-          rw (le-ltb 65536 (length j) h, ← g .is, o, lt-ltb (length out) (240 * length (parksSeen (f .pending))) s)
+    module _ (r : 240 * f .pending .count ≤ length out) where
+      room : 240 * length (parksSeen (f .pending)) ≤ length out
+      room = rw count r
 
-      module _ (r : 240 * f .pending .count ≤ length out) where
-        room : 240 * length (parksSeen (f .pending)) ≤ length out
-        room = rw count r
+      pub no-totals : (length totals ≡ 40 → ⊥) → exported j out totals ≡ turnedAway 13 (f .end) out totals
+      unfolding exported foldInto roomFor exportedAs sizeOf layoutOf size
+      no-totals n = rw (← g .is, o, le-ltb (length out) (240 * length (parksSeen (f .pending))) room, ne-eqb (length totals) 40 n)
 
-        pub no-totals : (length totals ≡ 40 → ⊥) → exported j out totals ≡ turnedAway 13 (f .end) out totals
-        unfolding exported foldJournal roomFor exportedAs
-        no-totals n = rw (le-ltb 65536 (length j) h, ← g .is, o, le-ltb (length out) (240 * length (parksSeen (f .pending))) room, ne-eqb (length totals) 40 n)
-
-        pub went : length totals ≡ 40 → (out′ totals′ : Bytes) → out′ ≡ written (output (parksSeen (f .pending))) out →
-            totals′ ≡ collect (digits 8) (f .pending .count ∷ f .totals .skipped ∷ f .totals .migrated ∷ f .totals .degraded ∷ f .end ∷ []) →
-            record { code = 0; out = out′; totals = totals′ } ≡ exported j out totals
-        unfolding exported foldJournal roomFor exportedAs fiveTotals
-        went n out′ totals′ p q =
-            rw (le-ltb 65536 (length j) h, ← g .is, o, le-ltb (length out) (240 * length (parksSeen (f .pending))) room, eq-eqb (length totals) 40 n, count, p, q)
+      pub went : length totals ≡ 40 → (out′ totals′ : Bytes) → out′ ≡ written (output (parksSeen (f .pending))) out →
+          totals′ ≡ collect (digits 8) (f .pending .count ∷ f .totals .skipped ∷ f .totals .migrated ∷ f .totals .degraded ∷ f .end ∷ []) →
+          record { code = 0; out = out′; totals = totals′ } ≡ exported j out totals
+      unfolding exported foldInto roomFor exportedAs fiveTotals sizeOf layoutOf size
+      went n out′ totals′ p q =
+          rw (← g .is, o, le-ltb (length out) (240 * length (parksSeen (f .pending))) room, eq-eqb (length totals) 40 n, count, p, q)
 
 -- ---- restore's ways
 
-module _ (bs frame : Bytes) (r : RestoredFrame) (is : restoredSeen r ≡ restore bs) where
+module _ (bs frame : Bytes) (r : RestoredFrame) (g : Restores (restore bs) r) where
   pub frame-refused : (x : Refusal) → r .answer ≡ answer.Refused x → exportedFrame bs frame ≡ record { code = refusalNumber x; frame = frame }
   unfolding exportedFrame exportedFrameAs
-  frame-refused x o = rw (← is, o)
+  frame-refused x o = rw (← g .is, o)
 
   module _ (o : r .answer ≡ answer.Restored) where
     pub frame-short : (length frame ≡ 92 → ⊥) → exportedFrame bs frame ≡ record { code = 13; frame = frame }
     unfolding exportedFrame exportedFrameAs
-    frame-short n = rw (← is, o, ne-eqb (length frame) 92 n)
+    frame-short n = rw (← g .is, o, ne-eqb (length frame) 92 n)
 
     pub frame-went : length frame ≡ 92 → (frame′ : Bytes) → frame′ ≡ frameBytes (frameOf (r .frame)) → record { code = 0; frame = frame′ } ≡ exportedFrame bs frame
     unfolding exportedFrame exportedFrameAs
-    frame-went n frame′ w = rw (← is, o, eq-eqb (length frame) 92 n, w)
+    frame-went n frame′ w = rw (← g .is, o, eq-eqb (length frame) 92 n, w)

@@ -9,7 +9,7 @@ use Rattle.lists.specs.Lists.{collect, written}
 use Rattle.wire.specs.Numbers.{digits}
 use Rattle.layout.specs.Layout.{join}
 use Rattle.store_rules.specs.Frames.{Frame}
-use Rattle.gap_quarantine_journal.specs.Fold.{Folded, Outcome, folded, refused, foldJournal, output}
+use Rattle.gap_quarantine_journal.specs.Fold.{Folded, Outcome, folded, refused, foldInto, output}
 use Rattle.gap_quarantine_journal.specs.Restore as restore
 use Rattle.gap_quarantine_journal.specs.Restore.{Restored, restored}
 
@@ -37,7 +37,7 @@ exportedAs (folded s end) out totals =
     (turnedAway 13 end out totals)
 
 unfoldable pub exported : Bytes → Bytes → Bytes → Exported
-exported journal out totals = exportedAs (foldJournal journal (length out)) out totals
+exported journal out totals = exportedAs (foldInto journal (length out)) out totals
 
 -- ---- restore
 

@@ -11,6 +11,7 @@ ghost use Rattle.gap_quarantine_journal.specs.Export.{frameBytes};
 ghost use Rattle.gap_quarantine_journal.specs.Fold.{output};
 ghost use Rattle.gap_quarantine_journal.specs.View.{parksSeen};
 use super::pending::PendingSet;
+use journal_record::PARK_SIZE;
 use refusal::Refusal;
 use store_rules::ParkedFrame;
 use totals::Totals;
@@ -25,7 +26,7 @@ pub(crate) fn write_parks(set: PendingSet, out: &mut [u8])
     while i < count {
         let park = set.parks[i];
         let bytes = journal_record::park_bytes(park);
-        wire::put_bytes(out, 240 * i, &bytes);
+        wire::put_bytes(out, PARK_SIZE * i, &bytes);
         i += 1;
     }
 }

@@ -10,7 +10,7 @@ use borrow.Author.Tests.{leb-true, leb-false, le-leb, lt-leb}
 use Rattle.lists.specs.Bytes.{Bytes}
 use Rattle.lists.proofs.Parts.{drop-take}
 use Rattle.journal_record.specs.Reading.{sizeOf}
-use Rattle.gap_quarantine_journal.specs.Fold.{Folded, begin, unfinished, read, Outcome, folded, after, foldFrom, foldJournal}
+use Rattle.gap_quarantine_journal.specs.Fold.{Folded, begin, unfinished, read, Outcome, folded, after, foldFrom, foldInto}
 use Rattle.journal_laws.specs.CutRule.{Past, past, recordsFrom, records, wholeBefore, foldOf, CutRule}
 use Rattle.journal_laws.proofs.Steps.{Stepped, stops, refuses, reads, stepped}
 use Rattle.journal_laws.proofs.Folds.{fuel, folds, folds-of}
@@ -50,7 +50,7 @@ cut-fold (suc k) bs at m s t end h = go (stepped bs s) (λ n j u. cut-fold k (dr
             rw (lt-leb (at + sizeOf form) (at + m) (omega arith))
 
 -- for a journal that folds with any output, cut with one that holds 64 records
-module _ (journal : Bytes) (given : ℕ) (s : Folded) (end : ℕ) (h : foldJournal journal given ≡ folded s end) (m : ℕ) where
+module _ (journal : Bytes) (given : ℕ) (s : Folded) (end : ℕ) (h : foldInto journal given ≡ folded s end) (m : ℕ) where
   cut-from : foldFrom (length (take m journal)) (take m journal) 0 begin ≡ foldOf (wholeBefore m (records journal)) begin 0
   unfolding records
   cut-from =
@@ -59,10 +59,10 @@ module _ (journal : Bytes) (given : ℕ) (s : Folded) (end : ℕ) (h : foldJourn
       fuel (length (take m journal)) (length journal) (take m journal) 0 begin (omega arith) (omega arith)
       ∙ rw g at (cut-fold (length journal) journal 0 m begin s end (folds journal given s end h .from))
 
-  cut-journal : (room : ℕ) → 15360 ≤ room → foldJournal (take m journal) room ≡ foldOf (wholeBefore m (records journal)) begin 0
+  cut-journal : (room : ℕ) → 15360 ≤ room → foldInto (take m journal) room ≡ foldOf (wholeBefore m (records journal)) begin 0
   cut-journal room r = go (foldOf-ends (wholeBefore m (records journal)) begin 0)
     where
-      go : Ends (foldOf (wholeBefore m (records journal)) begin 0) → foldJournal (take m journal) room ≡ foldOf (wholeBefore m (records journal)) begin 0
+      go : Ends (foldOf (wholeBefore m (records journal)) begin 0) → foldInto (take m journal) room ≡ foldOf (wholeBefore m (records journal)) begin 0
       go (ends t at e) =
           let l = length-take m journal in
           let a = folds journal given s end h in

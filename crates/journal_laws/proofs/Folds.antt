@@ -9,8 +9,9 @@ use lib.ListN.{length, take, drop, length-drop}
 use borrow.Author.Tests.{ltb-false, le-ltb}
 use Rattle.lists.specs.Bytes.{Bytes}
 use Rattle.journal_record.specs.Records.{Park}
-use Rattle.journal_record.specs.Reading.{sizeOf}
-use Rattle.gap_quarantine_journal.specs.Fold.{Folded, begin, Outcome, folded, refused, after, foldFrom, roomFor, foldJournal}
+use Rattle.layout.specs.Layout.{size}
+use Rattle.journal_record.specs.Reading.{layoutOf, sizeOf}
+use Rattle.gap_quarantine_journal.specs.Fold.{Folded, begin, Outcome, folded, refused, after, foldFrom, roomFor, foldJournal, foldInto}
 use Rattle.journal_laws.proofs.Steps.{Change, at-least-ten, Stepped, stops, refuses, reads, stepped, step-short}
 
 -- ---- a property of bytes, for all their parts, and one of the pending set, which every change keeps
@@ -57,8 +58,8 @@ pub record Folds (journal : Bytes) (room : ℕ) (s : Folded) (end : ℕ) : Type 
   pub from : foldFrom (length journal) journal 0 begin ≡ folded s end
   pub fitting : 240 * length (s .pending) ≤ room
 
-pub folds : (journal : Bytes) (room : ℕ) (s : Folded) (end : ℕ) → foldJournal journal room ≡ folded s end → Folds journal room s end
-unfolding foldJournal roomFor
+pub folds : (journal : Bytes) (room : ℕ) (s : Folded) (end : ℕ) → foldInto journal room ≡ folded s end → Folds journal room s end
+unfolding foldInto foldJournal roomFor sizeOf layoutOf size
 folds journal room s end h = sized (ltb 65536 (length journal)) refl h
   where
     outcome : length journal ≤ 65536 → (o : Outcome) → foldFrom (length journal) journal 0 begin ≡ o → roomFor room o ≡ folded s end → Folds journal room s end
@@ -71,11 +72,11 @@ folds journal room s end h = sized (ltb 65536 (length journal)) refl h
             let d : t ≡ s = cc in
             record { short = l; from = e ∙ r; fitting = subst (λ (x : Folded). 240 * length (x .pending) ≤ room) d (ltb-false _ _ p) }
 
-    sized : (b : Bool) → ltb 65536 (length journal) ≡ b → cond b (refused 9 65536) (roomFor room (foldFrom (length journal) journal 0 begin)) ≡ folded s end → Folds journal room s end
+    sized : (b : Bool) → ltb 65536 (length journal) ≡ b → roomFor room (cond b (refused 9 65536) (foldFrom (length journal) journal 0 begin)) ≡ folded s end → Folds journal room s end
     sized true e q = let z : _≡_ {A = ℕ} 0 1 = cc in absurd (omega arith)
     sized false e q = outcome (ltb-false 65536 (length journal) e) (foldFrom (length journal) journal 0 begin) refl q
 
-pub folds-of : (journal : Bytes) (room : ℕ) (s : Folded) (end : ℕ) → Folds journal room s end → foldJournal journal room ≡ folded s end
-unfolding foldJournal roomFor
+pub folds-of : (journal : Bytes) (room : ℕ) (s : Folded) (end : ℕ) → Folds journal room s end → foldInto journal room ≡ folded s end
+unfolding foldInto foldJournal roomFor sizeOf layoutOf size
 folds-of journal room s end f =
     rw (le-ltb 65536 (length journal) (f .short), f .from, le-ltb room (240 * length (s .pending)) (f .fitting))

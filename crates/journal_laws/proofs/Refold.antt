@@ -14,13 +14,13 @@ use Rattle.lists.specs.Lists.{Each, collect}
 use Rattle.lists.proofs.ByteOrder.{eqBytes-of, eqBytes-sym, before-not-after}
 use Rattle.lists.proofs.Keeping.{each-append, each-map}
 use Rattle.wire.specs.HashText.{parseHash}
-use Rattle.layout.specs.Layout.{join}
+use Rattle.layout.specs.Layout.{size, join}
 use Rattle.journal_record.specs.Records.{Fidelity, full, degraded, Park, parkMark}
-use Rattle.journal_record.specs.Reading.{park, formOf, layoutOf, sizeOf, versionOf, accepted}
+use Rattle.journal_record.specs.Reading.{park, formOf, layoutOf, sizeOf, versionOf, accepted, isPark}
 use Rattle.journal_record.specs.Writing.{parkFields, parkBytes}
 use Rattle.gap_quarantine_journal.specs.Pending.{putPark, isNonZero, isFull, fullOr, settledFidelity}
 use Rattle.gap_quarantine_journal.specs.Fold.{Folded, begin, read, keep64, applyPark, apply, stepWhole, stepOf, folded, after, foldFrom, output}
-use Rattle.gap_quarantine_journal.specs.Restore.{refused, restoreDegraded, restoreFull, restoreAs, restoreHash, restorePark, isPark, restore}
+use Rattle.gap_quarantine_journal.specs.Restore.{refused, restoreDegraded, restoreFull, restoreAs, restoreHash, restorePark, restore}
 use Rattle.journal_laws.specs.Keys.{Ascending}
 use Rattle.journal_laws.specs.Refolding.{Refolding, NoSixteen}
 use Rattle.journal_laws.proofs.Steps.{sizes, step-whole}
@@ -115,11 +115,8 @@ refolding journal room s end bytes h =
 
 module _ (p : Park) (h : Settled p) where
   park-restored : restore (parkBytes p) ≡ restorePark p
-  unfolding restore isPark
-  park-restored = rw (eq-eqb (length (parkBytes p)) 240 (park-long p (h .sizes)), marked, park-fits p (h .sizes), park-back p (h .sizes))
-    where
-      marked : eqBytes (take 2 (parkBytes p)) parkMark ≡ true
-      marked = eqBytes-of (take 2 (parkBytes p)) parkMark (rw append-nil at (mark p []))
+  unfolding restore isPark sizeOf layoutOf size
+  park-restored = rw (eq-eqb (length (parkBytes p)) 240 (park-long p (h .sizes)), park-fits p (h .sizes), park-back p (h .sizes))
 
 full-is : (b : Bool) → fullOr b ≡ full → b ≡ true
 unfolding fullOr

@@ -13,11 +13,12 @@ use Rattle.lists.specs.Bytes.{Bytes}
 use Rattle.lists.specs.Lists.{isIn}
 use Rattle.wire.specs.HashText.{parseHash}
 use Rattle.journal_record.specs.Records.{Fidelity, full, degraded, Park}
-use Rattle.journal_record.specs.Reading.{sizeOf, parkOf}
-use Rattle.gap_quarantine_journal.specs.Fold.{Folded, begin, refuse, stepOf, Outcome, folded, refused, after, foldFrom, roomFor, foldJournal}
+use Rattle.layout.specs.Layout.{size}
+use Rattle.journal_record.specs.Reading.{layoutOf, sizeOf, parkOf, isPark}
+use Rattle.gap_quarantine_journal.specs.Fold.{Folded, begin, refuse, stepOf, Outcome, folded, refused, after, foldFrom, roomFor, foldJournal, foldInto}
 use Rattle.gap_quarantine_journal.specs.Export.{turnedAway, exportedAs, exported}
 use Rattle.gap_quarantine_journal.specs.Restore as restoring
-use Rattle.gap_quarantine_journal.specs.Restore.{restored, frameOf, restoreDegraded, restoreFull, restoreAs, restoreHash, restorePark, isPark, restore}
+use Rattle.gap_quarantine_journal.specs.Restore.{restored, frameOf, restoreDegraded, restoreFull, restoreAs, restoreHash, restorePark, restore}
 use Rattle.journal_laws.specs.CutRule.{past, recordsFrom, records, foldOf}
 use Rattle.journal_laws.specs.Places.{Place, whole, inRecord, last, Places, Code, done, away, Codes, RestoreNumber, Restores}
 use Rattle.journal_laws.proofs.Steps.{AtRecord, unknownMark, outsideLayout, overKeys, Stepped, stops, refuses, reads, stepped}
@@ -69,7 +70,7 @@ fold-end (suc k) bs at s t end h = go (stepped bs s) (λ w u. fold-end k (drop w
         omega arith
 
 pub places : Places
-unfolding foldJournal roomFor records
+unfolding foldInto foldJournal roomFor sizeOf layoutOf size records
 places journal room n at h = sized (ltb 65536 (length journal)) refl h
   where
     outcome : length journal ≤ 65536 → (o : Outcome) → foldFrom (length journal) journal 0 begin ≡ o → roomFor room o ≡ refused n at → Place journal room n at
@@ -91,7 +92,7 @@ places journal room n at h = sized (ltb 65536 (length journal)) refl h
             (last t a (folds-of journal 15360 t a (record { short = l; from = e; fitting = omega arith })) (ltb-true _ _ p)))
         roomy false p r = let z : _≡_ {A = ℕ} 0 1 = cc in absurd (omega arith)
 
-    sized : (b : Bool) → ltb 65536 (length journal) ≡ b → cond b (refused 9 65536) (roomFor room (foldFrom (length journal) journal 0 begin)) ≡ refused n at → Place journal room n at
+    sized : (b : Bool) → ltb 65536 (length journal) ≡ b → roomFor room (cond b (refused 9 65536) (foldFrom (length journal) journal 0 begin)) ≡ refused n at → Place journal room n at
     sized true e q =
         let x : 9 ≡ n = cc in
         let y : 65536 ≡ at = cc in
@@ -108,7 +109,7 @@ of-five false false true d e h = refl
 of-five false false false true e h = refl
 of-five false false false false e h = absurd (false≢true h)
 
-ending : (journal : Bytes) (room : ℕ) (s : Folded) (end : ℕ) → foldJournal journal room ≡ folded s end → end ≤ 65536
+ending : (journal : Bytes) (room : ℕ) (s : Folded) (end : ℕ) → foldInto journal room ≡ folded s end → end ≤ 65536
 ending journal room s end h =
     let f = folds journal room s end h in
     let l = fold-end (length journal) journal 0 begin s end (f .from) in
@@ -122,9 +123,9 @@ placed journal room n at (last s end f l) = away 13 end refl (ending journal 153
 
 pub codes : Codes
 unfolding exported exportedAs turnedAway isIn
-codes journal out totals = go (foldJournal journal (length out)) refl
+codes journal out totals = go (foldInto journal (length out)) refl
   where
-    go : (o : Outcome) → foldJournal journal (length out) ≡ o → Code (exportedAs o out totals .code)
+    go : (o : Outcome) → foldInto journal (length out) ≡ o → Code (exportedAs o out totals .code)
     go (refused n at) e = placed journal (length out) n at (places journal (length out) n at e)
     go (folded s end) e = sized (eqb (length totals) 40) refl
       where

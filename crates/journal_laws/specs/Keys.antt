@@ -6,7 +6,7 @@ use lib.ListN.{length}
 use Rattle.lists.specs.Bytes.{Bytes, Before}
 use Rattle.lists.specs.Lists.{Pairwise}
 use Rattle.journal_record.specs.Records.{Park}
-use Rattle.gap_quarantine_journal.specs.Fold.{Folded, folded, foldJournal}
+use Rattle.gap_quarantine_journal.specs.Fold.{Folded, folded, foldInto}
 
 -- each key before the later ones
 abbrev pub Ascending : List Park → Type 0
@@ -14,5 +14,5 @@ Ascending = Pairwise (λ (p q : Park). Before (p .text) (q .text))
 
 abbrev pub Keys : Type 0
 Keys =
-    (journal : Bytes) (room : ℕ) (s : Folded) (end : ℕ) → foldJournal journal room ≡ folded s end →
+    (journal : Bytes) (room : ℕ) (s : Folded) (end : ℕ) → foldInto journal room ≡ folded s end →
     Ascending (s .pending) × (length (s .pending) ≤ 64)

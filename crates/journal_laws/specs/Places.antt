@@ -6,7 +6,8 @@ use mathlib.Core.List.{[], _∷_}
 use lib.ListN.{length, drop}
 use Rattle.lists.specs.Bytes.{Bytes}
 use Rattle.lists.specs.Lists.{isIn}
-use Rattle.gap_quarantine_journal.specs.Fold.{Folded, begin, refuse, stepOf, folded, refused, foldJournal}
+use Rattle.journal_record.specs.Reading.{park, sizeOf}
+use Rattle.gap_quarantine_journal.specs.Fold.{Folded, begin, refuse, stepOf, folded, refused, foldInto}
 use Rattle.gap_quarantine_journal.specs.Export.{exported}
 use Rattle.gap_quarantine_journal.specs.Restore as restoring
 use Rattle.gap_quarantine_journal.specs.Restore.{restore}
@@ -20,10 +21,10 @@ pub data Place (journal : Bytes) (room : ℕ) : ℕ → ℕ → Type 0 where
   inRecord : (n : ℕ) (s : Folded) (at : ℕ) → isIn n (10 ∷ 11 ∷ 12 ∷ []) ≡ true → foldOf (records journal) begin 0 ≡ folded s at →
       stepOf (drop at journal) s ≡ refuse n → at < length journal → length journal ≤ 65536 → Place journal room n at
   -- 13: the end
-  last : (s : Folded) (end : ℕ) → foldJournal journal 15360 ≡ folded s end → room < 240 * length (s .pending) → Place journal room 13 end
+  last : (s : Folded) (end : ℕ) → foldInto journal 15360 ≡ folded s end → room < sizeOf park * length (s .pending) → Place journal room 13 end
 
 abbrev pub Places : Type 0
-Places = (journal : Bytes) (room n at : ℕ) → foldJournal journal room ≡ refused n at → Place journal room n at
+Places = (journal : Bytes) (room n at : ℕ) → foldInto journal room ≡ refused n at → Place journal room n at
 
 -- 0, or the number of a refusal and its offset
 pub data Code : ℕ → Type 0 where

@@ -9,7 +9,7 @@ use Rattle.wire.specs.Numbers.{digits}
 use Rattle.store_rules.specs.Frames.{Frame, Consumed, mined, reparked, Decision, Row}
 use Rattle.store_rules.specs.Store.{Store, empty, Call, long, Request, poll, guard, enterTentative, Answer, step, run}
 use Rattle.journal_record.specs.Records.{Fidelity, degraded, Park, resolveMark, legacyMark}
-use Rattle.gap_quarantine_journal.specs.Fold.{Counts, Outcome, folded, refused, foldJournal}
+use Rattle.gap_quarantine_journal.specs.Fold.{Counts, Outcome, folded, refused, foldInto}
 
 -- ---- the store
 
@@ -73,7 +73,7 @@ enterAt100 = enterTentative frameHash minedAt100
 -- ---- journals
 
 unfoldable pub fold : Bytes → Outcome
-fold journal = foldJournal journal 15360
+fold journal = foldInto journal 15360
 
 unfoldable pub pendingIn : Outcome → List Park
 pendingIn (folded s end) = s .pending
