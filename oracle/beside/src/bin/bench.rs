@@ -99,9 +99,12 @@ fn finality(rounds: u64) -> u64 {
     seen
 }
 
+/// A name, the Rust's loop, and ours.
+type Measure = (&'static str, fn(u64) -> u64, Option<Loop>);
+
 fn store() {
     let ours = store_loops();
-    let measures: [(&str, fn(u64) -> u64, Option<Loop>); 4] = [
+    let measures: [Measure; 4] = [
         ("polls with 8 frames a sender", polls, ours.as_ref().map(|o| o.polls)),
         ("guarded polls with content, 8 frames", guarded_polls, ours.as_ref().map(|o| o.guarded_polls)),
         ("push and rescue", push_and_rescue, ours.as_ref().map(|o| o.push_and_rescue)),

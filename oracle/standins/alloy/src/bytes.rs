@@ -1,5 +1,5 @@
 //! Bytes: a vector that is carried along.
-#[derive(Debug, Clone, PartialEq, Eq)]
+#[derive(Debug, Clone, Default, PartialEq, Eq)]
 pub struct Bytes(Vec<u8>);
 
 impl Bytes {
