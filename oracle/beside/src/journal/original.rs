@@ -10,6 +10,7 @@ use published::gap_quarantine_journal::{
     corrupt_sidecar_path, read_pending, ConsumedKind, JournalRecord, JournalRecordPayload, ParkRecord, PendingRead,
     RecordFidelity,
 };
+use std::collections::BTreeSet;
 use std::fs;
 use std::path::{Path, PathBuf};
 
@@ -37,48 +38,24 @@ impl Original {
         if journal.len() > JOURNAL_LIMIT {
             return (Err((9, JOURNAL_LIMIT)), Vec::new());
         }
-        let mut r = Random::new(seed ^ 0x11e5);
-        let mut lines = Vec::new();
-        let mut offsets = Vec::new();
-        let mut parks = 0;
-        let mut at = 0;
-        let mut refused = None;
-        while at < journal.len() {
-            match read(&journal[at..]) {
-                Reading::Unfinished => break,
-                Reading::Refused(number) => {
-                    refused = Some((number, at));
-                    break;
-                }
-                Reading::Whole(record, size) => {
-                    if r.once_in(9) {
-                        lines.push(blank(&mut r));
-                        offsets.push(at);
-                    }
-                    parks += usize::from(matches!(record, Record::Park(_) | Record::Legacy(_)));
-                    lines.push(line(&record, &mut r));
-                    offsets.push(at);
-                    at += size;
-                }
-            }
-        }
-        if parks > 64 {
+        let parts = Lines::of(journal, seed);
+        if let Some(crowded) = parts.crowded {
             // 12: the first record after which the Rust holds more than 64
-            let full = (65..=lines.len()).find(|n| self.read_lines(&lines[..*n]).pending.len() > 64);
-            if let Some(n) = full {
-                return (Err((12, offsets[n - 1])), Vec::new());
+            let holds = |n: &usize| self.read_lines(&parts.lines[..*n]).pending.len() > 64;
+            if let Some(n) = (crowded..=parts.lines.len()).find(holds) {
+                return (Err((12, parts.offsets[n - 1])), Vec::new());
             }
         }
-        if let Some(refusal) = refused {
+        if let Some(refusal) = parts.refused {
             return (Err(refusal), Vec::new());
         }
-        let found = self.read_lines(&lines);
+        let found = self.read_lines(&parts.lines);
         let folded = Folded {
             pending: found.pending.iter().map(|p| park(p).bytes()).collect(),
             skipped: found.skipped as u64,
             migrated: found.migrated as u64,
             degraded: found.degraded as u64,
-            end: at,
+            end: parts.end,
         };
         (Ok(folded), found.pending.iter().map(restored).collect())
     }
@@ -92,6 +69,59 @@ impl Original {
             JournalRecordPayload::Park(park) => restored(&park),
             _ => panic!("a QP's line is a park"),
         }
+    }
+}
+
+/// The lines of a journal's whole records, with blank ones between.
+#[derive(Default)]
+struct Lines {
+    lines: Vec<String>,
+    /// Where the record of each line begins.
+    offsets: Vec<usize>,
+    /// How many lines first have more than 64 texts and hashes, so that 64 keys may be held.
+    crowded: Option<usize>,
+    /// 10 or 11, and its offset.
+    refused: Option<(u8, usize)>,
+    end: usize,
+}
+
+impl Lines {
+    fn of(journal: &[u8], seed: u64) -> Self {
+        let mut r = Random::new(seed ^ 0x11e5);
+        let mut found = Lines::default();
+        let mut keys = BTreeSet::new();
+        while found.end < journal.len() {
+            match read(&journal[found.end..]) {
+                Reading::Unfinished => break,
+                Reading::Refused(number) => {
+                    found.refused = Some((number, found.end));
+                    break;
+                }
+                Reading::Whole(record, size) => {
+                    if r.once_in(9) {
+                        found.lines.push(blank(&mut r));
+                        found.offsets.push(found.end);
+                    }
+                    found.lines.push(line(&record, &mut r));
+                    found.offsets.push(found.end);
+                    keys.extend(names(&record));
+                    if keys.len() > 64 && found.crowded.is_none() {
+                        found.crowded = Some(found.lines.len());
+                    }
+                    found.end += size;
+                }
+            }
+        }
+        found
+    }
+}
+
+/// What the key of a record may be made of.
+fn names(record: &Record) -> Vec<Vec<u8>> {
+    match record {
+        Record::Park(p) => vec![p.text.clone()],
+        Record::Legacy(l) => [l.frame_hash, l.top_hash].iter().flatten().map(|h| h.to_vec()).collect(),
+        _ => Vec::new(),
     }
 }
 
