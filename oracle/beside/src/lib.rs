@@ -1,12 +1,13 @@
 //! The quarantine beside the published Rust.
 #[macro_use]
-mod wrong_rules;
+mod sayings;
 pub mod hex;
 pub mod intended;
 pub mod journal;
 pub mod random;
 mod report;
 pub mod scratch;
+pub mod seen;
 pub mod shrink;
 pub mod speed;
 pub mod store;

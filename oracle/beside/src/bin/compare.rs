@@ -1,5 +1,6 @@
 //! Holds our store and journal beside the published Rust: document 01's examples, random scripts, all short runs, the order
-//! rule, random journals, cuts, restores, and wrong rules. The last line has the counts and the number of differences.
+//! rule, random journals, cuts, restores, and wrong rules. The last line has the counts and the number of
+//! differences. A run fails by a difference, by a wrong rule that was not caught, and by a kind of answer that was not seen.
 //!
 //! compare [--replay PROGRAM] [--calls N] [--orders N] [--journals N] [--seed N]
 use beside::intended;
@@ -7,6 +8,7 @@ use beside::journal::original::Original;
 use beside::journal::ours::{ours, Ours};
 use beside::journal::{compare as journals, strength as journal_strength, wrong as journal_wrong};
 use beside::scratch::Scratch;
+use beside::seen::{self, Seen};
 use beside::store::menu::{menu, LONGEST};
 use beside::store::replay::Replay;
 use beside::store::{compare as stores, order, strength as store_strength, wrong as store_wrong};
@@ -15,7 +17,7 @@ use std::process::ExitCode;
 
 /// How many random scripts, and how many journals, a wrong rule is looked for in.
 const SCRIPTS_FOR_WRONG: u64 = 3000;
-const JOURNALS_FOR_WRONG: u64 = 3000;
+const JOURNALS_FOR_WRONG: u64 = 6000;
 
 /// How many journals are cut at every byte.
 const JOURNALS_CUT: u64 = 200;
@@ -55,6 +57,7 @@ struct Run<'a> {
     folder: &'a Path,
     differences: usize,
     counts: Vec<String>,
+    seen: Seen,
 }
 
 impl Run<'_> {
@@ -66,6 +69,8 @@ impl Run<'_> {
             c.scripts, d.journals
         );
         self.differences += c.scripts - store + d.journals - journal + c.model + c.replay + d.model + d.ours;
+        self.seen.add(&c.seen);
+        self.seen.add(&d.seen);
         let mut hold = 0;
         for (says, check) in intended::ALL {
             match check(self.folder) {
@@ -84,6 +89,8 @@ impl Run<'_> {
         println!("store, every run of up to {LONGEST} calls of a menu of {}: {short}", menu().len());
         self.differences += random.model + random.replay + short.model + short.replay;
         self.differences += self.replay.map_or(0, stores::bad_inputs);
+        self.seen.add(&random.seen);
+        self.seen.add(&short.seen);
         self.counts.push(format!("{} store calls", random.calls + short.calls));
         self.counts.push(format!("{} random scripts and {} short runs", random.scripts, short.scripts));
     }
@@ -114,6 +121,7 @@ impl Run<'_> {
         let (cuts, differences) = journals::cuts(self.sizes.seed, JOURNALS_CUT, self.original, self.linked);
         println!("journal, cut at every byte: {cuts} cuts, {differences} differences");
         self.differences += random.model + random.ours + differences;
+        self.seen.add(&random.seen);
         self.counts.push(format!("{} journals, {} restores, {cuts} cuts", random.journals, random.restores));
     }
 
@@ -122,7 +130,8 @@ impl Run<'_> {
         let seed = self.sizes.seed;
         println!("wrong rules for the store:");
         let store = store_wrong::ALL;
-        let in_store = store.iter().filter(|(w, says)| store_strength::catches(*w, says, seed, SCRIPTS_FOR_WRONG)).count();
+        let answers = store_strength::answered(seed, SCRIPTS_FOR_WRONG);
+        let in_store = store.iter().filter(|(w, says)| store_strength::catches(*w, says, &answers)).count();
         println!("wrong rules for the journal:");
         let journal = journal_wrong::ALL;
         let answers = journal_strength::answered(seed, JOURNALS_FOR_WRONG, self.original);
@@ -130,6 +139,29 @@ impl Run<'_> {
             journal.iter().filter(|(w, says)| journal_strength::catches(*w, says, &answers, self.original)).count();
         self.counts.push(format!("wrong rules caught {in_store} of {} and {in_journal} of {}", store.len(), journal.len()));
         in_store == store.len() && in_journal == journal.len()
+    }
+
+    /// Says whether every kind of answer was seen.
+    fn seen(&mut self) -> bool {
+        println!("refusals and kinds of answers, seen in the Rust's answers and in the driver's refusals:");
+        let (seen, all) = (self.seen.table(), seen::ALL.len());
+        self.counts.push(format!("kinds of answers seen {seen} of {all}"));
+        seen == all
+    }
+
+    /// What was held beside the Rust, and what was not given.
+    fn sides(&self) -> String {
+        let replay = (self.replay.is_some(), "replay");
+        let linked = (self.linked.is_some(), "the C functions of fold and restore");
+        let named = |wanted: bool| {
+            let of = [replay, linked].into_iter().filter(|(given, _)| *given == wanted).map(|(_, name)| name);
+            of.collect::<Vec<&str>>().join(", ")
+        };
+        match (named(true), named(false)) {
+            (given, none) if none.is_empty() => format!("the Rust beside {given}, and the model"),
+            (none, missing) if none.is_empty() => format!("the Rust beside the model only, without {missing}"),
+            (given, missing) => format!("the Rust beside {given}, and the model, without {missing}"),
+        }
     }
 }
 
@@ -147,20 +179,16 @@ fn main() -> ExitCode {
         folder: scratch.path(),
         differences: 0,
         counts: Vec::new(),
+        seen: Seen::default(),
     };
     run.examples();
     run.store();
     run.orders();
     run.journal();
     let caught = run.strength();
-    let beside = match (replay.is_some(), linked.is_some()) {
-        (true, true) => "the Rust beside replay, the C functions of fold and restore, and the model",
-        (true, false) => "the Rust beside replay (store) and the model; no C functions were linked",
-        (false, true) => "the Rust beside the C functions (fold, restore) and the model; no replay was given",
-        (false, false) => "the Rust beside the model only; no replay was given and no C functions were linked",
-    };
-    println!("{beside}: {}; {} differences", run.counts.join(", "), run.differences);
-    match caught && run.differences == 0 {
+    let seen = run.seen();
+    println!("{}: {}; {} differences", run.sides(), run.counts.join(", "), run.differences);
+    match caught && seen && run.differences == 0 {
         true => ExitCode::SUCCESS,
         false => ExitCode::FAILURE,
     }

@@ -4,8 +4,10 @@
 //! The sample has document 01's examples, the scripts that the manual shows, a smallest input for each wrong rule, inputs at each limit, and random ones.
 use beside::hex::hex;
 use beside::journal::original::Original as Journal;
-use beside::journal::outcome::{line, with_room, Restored, ENOUGH, JOURNAL_LIMIT};
+use beside::journal::outcome::{line, with_room, Restored, Room, ENOUGH, JOURNAL_LIMIT, TOTALS_SIZE};
 use beside::journal::records::{Record, PARK_SIZE};
+use beside::journal::strength::Smallest;
+use beside::journal::wrong::Wrong;
 use beside::journal::{self, strength as journals};
 use beside::scratch::Scratch;
 use beside::store::answers::Answer;
@@ -24,6 +26,19 @@ const SEED: u64 = 1_000_000;
 /// How many random scripts and journals are kept beside the small ones.
 const RANDOM_SCRIPTS: u64 = 8;
 const RANDOM_JOURNALS: u64 = 30;
+
+/// How many random journals a wrong rule is looked for in.
+const JOURNALS_FOR_WRONG: u64 = 6000;
+
+/// The wrong rules that only a second slice that is not 40 bytes, or a frame's that is not 92, can tell.
+const LENGTHS_ONLY: [Wrong; 6] = [
+    Wrong::TotalsLonger,
+    Wrong::TotalsShorter,
+    Wrong::FrameLonger,
+    Wrong::FrameShorter,
+    Wrong::ThirteenBeforeRecords,
+    Wrong::RestoreThirteenFirst,
+];
 
 /// The refusals that a script can meet, whose slices are always long enough.
 const STORE_REFUSALS: [u8; 7] = [1, 2, 3, 4, 6, 7, 8];
@@ -83,6 +98,7 @@ fn freeze_scripts(folder: &Path) {
 // ---- journals
 
 /// What the journals' input is made of.
+#[derive(PartialEq)]
 enum Item {
     /// A journal, and how many bytes are lent to its fold.
     Journal(Vec<u8>, usize),
@@ -117,7 +133,7 @@ impl Item {
 /// The fold's line, then for each pending record its bytes and what restore answers.
 fn journal_lines(number: usize, bytes: &[u8], room: usize, original: &Journal) -> String {
     let (fold, restored) = original.fold(bytes, number as u64);
-    let fold = with_room(fold, room, 40);
+    let fold = with_room(fold, Room { out: room, totals: TOTALS_SIZE });
     let mut text = line(&fold) + "\n";
     let pending = fold.map_or(Vec::new(), |f| f.pending);
     for (record, restored) in pending.iter().zip(&restored) {
@@ -147,10 +163,6 @@ fn found(test: impl Fn(&Vec<u8>) -> bool) -> Vec<u8> {
 
 fn folded(original: &Journal) -> Vec<Vec<u8>> {
     let mut list: Vec<Vec<u8>> = journal::examples::examples().into_iter().map(|e| e.journal).collect();
-    for (wrong, says) in journal::wrong::ALL {
-        let bytes = journals::smallest_for(*wrong, SEED, 30_000, original);
-        list.push(bytes.unwrap_or_else(|| panic!("no journal tells: {says}")));
-    }
     for number in FOLD_REFUSALS {
         list.push(found(|bytes| matches!(original.fold(bytes, 0).0, Err((n, _)) if n == number)));
     }
@@ -159,6 +171,28 @@ fn folded(original: &Journal) -> Vec<Vec<u8>> {
     long.truncate(JOURNAL_LIMIT + 1);
     list.push(long);
     list.extend((SEED..).map(journal::generate::journal).filter(|b| b.len() < 5000).take(RANDOM_JOURNALS as usize));
+    list
+}
+
+/// An input for each wrong rule, but for those that only slices of other lengths tell, which the program never lends.
+fn telling(original: &Journal) -> Vec<Item> {
+    let cases = journals::answered(SEED, JOURNALS_FOR_WRONG, original);
+    let mut list: Vec<Item> = Vec::new();
+    let mut untold = Vec::new();
+    for (wrong, _) in journal::wrong::ALL {
+        let item = match journals::smallest_for(*wrong, &cases, original) {
+            Some(Smallest::Journal(bytes, room)) => Item::Journal(bytes, room.min(ENOUGH)),
+            Some(Smallest::Park(bytes)) => Item::Park(bytes),
+            None => {
+                untold.push(*wrong);
+                continue;
+            }
+        };
+        if !list.contains(&item) {
+            list.push(item);
+        }
+    }
+    assert_eq!(untold, LENGTHS_ONLY, "what the program cannot be told by");
     list
 }
 
@@ -185,6 +219,7 @@ fn freeze_journals(folder: &Path) {
     let scratch = Scratch::new();
     let original = Journal::new(scratch.path());
     let mut list: Vec<Item> = folded(&original).into_iter().map(|bytes| Item::Journal(bytes, ENOUGH)).collect();
+    list.extend(telling(&original));
     list.extend(narrow(&original));
     list.extend(parks(&original));
     let (mut input, mut output) = (Vec::new(), String::new());

@@ -1,10 +1,12 @@
 //! Random journals of all five marks: few hashes in many spellings, few addresses and the zero ones, keys that are prefixes
 //! of each other, fields at their limits; then cut, damaged, or filled up to the limits of keys and length.
 use super::layout::{read, Reading};
-use super::outcome::JOURNAL_LIMIT;
-use super::records::{Address, Hash, Legacy, Park, Record, Resolve, Tentative, TentativeEntry};
+use super::outcome::{Room, ENOUGH, FRAME_SIZE, JOURNAL_LIMIT, TOTALS_SIZE};
+use super::records::{Address, Hash, Legacy, Park, Record, Resolve, Tentative, TentativeEntry, PARK_SIZE};
 use crate::hex::hex;
 use crate::random::Random;
+
+mod spoil;
 
 struct Maker {
     r: Random,
@@ -18,12 +20,18 @@ pub fn journal(seed: u64) -> Vec<u8> {
     let mut records: Vec<Vec<u8>> = Vec::new();
     if m.r.once_in(150) {
         records = m.many_keys();
-    } else if m.r.once_in(1500) {
-        records = m.long();
+    } else if m.r.once_in(200) {
+        records = m.sixty_fifth();
+    } else if m.r.once_in(200) {
+        return m.long();
     }
     let wanted = records.len() + m.r.index(22);
     while records.len() < wanted {
         records.push(m.record().bytes());
+    }
+    if m.r.once_in(5) {
+        m.spoil_one(&mut records);
+        return records.concat();
     }
     let mut bytes = records.concat();
     match m.r.below(12) {
@@ -33,10 +41,37 @@ pub fn journal(seed: u64) -> Vec<u8> {
         }
         2 => m.damage(&mut bytes),
         3 => m.stray(&records, &mut bytes),
-        4 => bytes.push(b'Q'),
+        4 => bytes.push(*m.r.pick(b"QP\n")),
         _ => {}
     }
     bytes
+}
+
+/// Lengths of the two slices lent to the fold of a journal with so many pending records: mostly enough, or exactly enough, or
+/// a byte short.
+pub fn room(pending: usize, seed: u64) -> Room {
+    let mut r = Random::new(seed ^ 0x2004);
+    let exact = pending * PARK_SIZE;
+    let out = match r.below(8) {
+        0 => exact,
+        1 => exact.saturating_sub(1),
+        2 => exact + 1,
+        3 => ENOUGH + 7,
+        _ => ENOUGH,
+    };
+    Room { out, totals: if r.once_in(20) { TOTALS_SIZE - 2 + r.index(5) } else { TOTALS_SIZE } }
+}
+
+/// Lengths of the slices lent to so many restores: mostly 92 bytes.
+pub fn frames(count: usize, seed: u64) -> Vec<usize> {
+    let mut r = Random::new(seed ^ 0x92);
+    let mut one = || match r.below(80) {
+        0 => r.index(FRAME_SIZE),
+        1 => FRAME_SIZE - 1,
+        2 => FRAME_SIZE + 1,
+        _ => FRAME_SIZE,
+    };
+    (0..count).map(|_| one()).collect()
 }
 
 /// Some records of a seed, whole and sound.
@@ -50,7 +85,7 @@ pub fn park_bytes(seed: u64) -> Vec<u8> {
     let mut m = Maker::new(seed ^ 0x9a4c);
     let mut park = m.park();
     if m.r.once_in(6) {
-        park.version = m.r.next() as u32;
+        park.version = m.r.draw() as u32;
     }
     let mut bytes = park.bytes();
     match m.r.below(16) {
@@ -60,6 +95,7 @@ pub fn park_bytes(seed: u64) -> Vec<u8> {
             bytes.pop();
         }
         3 => bytes[1] = b'L',
+        4 => m.spoil(&mut bytes),
         _ => {}
     }
     bytes
@@ -104,7 +140,7 @@ impl Maker {
         match self.r.below(8) {
             0 => 0,
             1 => u64::MAX,
-            2 => self.r.next(),
+            2 => self.r.draw(),
             _ => 1 + self.r.below(9),
         }
     }
@@ -227,7 +263,7 @@ impl Maker {
             }),
             7 => self.resolve(),
             8..=10 => Record::Legacy(self.legacy()),
-            _ => Record::Other(self.r.next()),
+            _ => Record::Other(self.r.draw()),
         }
     }
 
@@ -261,15 +297,18 @@ impl Maker {
         records
     }
 
-    /// As long as a journal may be, or a byte longer.
-    fn long(&mut self) -> Vec<Vec<u8>> {
-        let mut bytes = Vec::new();
-        while bytes.len() <= JOURNAL_LIMIT {
-            let record = if self.r.once_in(20) { self.record() } else { self.resolve() };
-            bytes.extend_from_slice(&record.bytes());
+    /// As long as a journal may be, or a byte longer; something that is no record may stand in it.
+    fn long(&mut self) -> Vec<u8> {
+        let mut records: Vec<Vec<u8>> = Vec::new();
+        while records.iter().map(Vec::len).sum::<usize>() <= JOURNAL_LIMIT {
+            records.push(self.record().bytes());
+        }
+        let mut bytes = records.concat();
+        if self.r.once_in(2) {
+            self.stray(&records, &mut bytes);
         }
         bytes.truncate(JOURNAL_LIMIT + self.r.index(2));
-        vec![bytes]
+        bytes
     }
 
     // ---- damage
@@ -284,15 +323,16 @@ impl Maker {
             0 => bytes[i].wrapping_add(1),
             1 => self.r.below(4) as u8,
             2 => 127,
-            _ => self.r.next() as u8,
+            _ => self.r.draw() as u8,
         };
     }
 
     /// Something that is no record stands between two records.
     fn stray(&mut self, records: &[Vec<u8>], bytes: &mut Vec<u8>) {
         let before: usize = records[..self.r.index(records.len() + 1)].iter().map(Vec::len).sum();
-        let stray: &[u8] = match self.r.below(5) {
+        let stray: &[u8] = match self.r.below(6) {
             0 => b"QQ",
+            5 => b"qP",
             1 => b"qp",
             2 => b"\n",
             3 => b"PQ",

@@ -110,7 +110,7 @@ fn wire(map: &mut Map<String, Value>, sound: bool, r: &mut Random) {
     map.insert("max_fee_per_gas".to_string(), json!(*r.pick(&["0", "7", "340282366920938463463374607431768211455"])));
     map.insert("max_priority_fee_per_gas".to_string(), json!(*r.pick(&["0", "1"])));
     map.insert("tx_type".to_string(), json!(1 + r.below(255)));
-    map.insert("received_unix_ms".to_string(), json!(r.next()));
+    map.insert("received_unix_ms".to_string(), json!(r.draw()));
     let raw = if r.once_in(2) { None } else { Some(json!(*r.pick(&["0x", "0x02ff", "02"]))) };
     put(map, "raw_signed_tx", raw, r);
     if !sound {
@@ -162,7 +162,7 @@ fn park(p: &Park, r: &mut Random) -> Value {
     frame.insert("chain_id".to_string(), json!(p.chain_id));
     frame.insert("gas".to_string(), json!(p.gas));
     // nobody reads the frame's own nonce
-    frame.insert("nonce".to_string(), json!(r.next()));
+    frame.insert("nonce".to_string(), json!(r.draw()));
     frame.insert("access_list".to_string(), if p.list { array(r) } else { no_array(r) });
     let mut map = Map::new();
     put_version(&mut map, p.version, r);

@@ -1,14 +1,16 @@
 //! The journal: records, the Rust, a model of document 01, our C functions, and where their inputs come from.
 mod brief;
+pub mod case;
 pub mod compare;
 pub mod examples;
 pub mod generate;
-mod layout;
+pub mod layout;
 pub mod lines;
 pub mod model;
 pub mod original;
 pub mod ours;
 pub mod outcome;
 pub mod records;
+mod refusals;
 pub mod strength;
 pub mod wrong;

@@ -7,6 +7,20 @@ pub const JOURNAL_LIMIT: usize = 65_536;
 /// An output that is never too short: 64 records.
 pub const ENOUGH: usize = 64 * PARK_SIZE;
 
+/// How long the second slice of a fold is, and the slice of a restore.
+pub const TOTALS_SIZE: usize = 40;
+pub const FRAME_SIZE: usize = 92;
+
+/// The lengths of the two slices that are lent to a fold.
+#[derive(Clone, Copy, Debug, PartialEq, Eq)]
+pub struct Room {
+    pub out: usize,
+    pub totals: usize,
+}
+
+/// Room that refuses no fold.
+pub const AMPLE: Room = Room { out: ENOUGH, totals: TOTALS_SIZE };
+
 #[derive(Clone, Debug, PartialEq, Eq)]
 pub struct Folded {
     /// The pending records as QP, in key order.
@@ -31,12 +45,21 @@ pub fn frame(hash: &[u8], from: &[u8], numbers: [u64; 5]) -> Vec<u8> {
 }
 
 /// 13: the output is too short for the records, or the second slice is not 40 bytes; the offset is the end.
-pub fn with_room(fold: Fold, out: usize, totals: usize) -> Fold {
+pub fn with_room(fold: Fold, room: Room) -> Fold {
     let folded = fold?;
-    if folded.pending.len() * PARK_SIZE > out || totals != 40 {
+    if folded.pending.len() * PARK_SIZE > room.out || room.totals != TOTALS_SIZE {
         return Err((13, folded.end));
     }
     Ok(folded)
+}
+
+/// 13, last: the slice lent to restore is not 92 bytes.
+pub fn with_frame(restored: Restored, length: usize) -> Restored {
+    let frame = restored?;
+    if length != FRAME_SIZE {
+        return Err(13);
+    }
+    Ok(frame)
 }
 
 /// What the fold leaves in the two slices, and what it returns.
@@ -50,8 +73,8 @@ pub struct Written {
 /// The byte that lent slices are filled with, so that a stray write shows.
 pub const FILL: u8 = 0xa5;
 
-pub fn written(fold: &Fold, out: usize, totals: usize) -> Written {
-    let mut w = Written { code: 0, out: vec![FILL; out], totals: vec![FILL; totals] };
+pub fn written(fold: &Fold, room: Room) -> Written {
+    let mut w = Written { code: 0, out: vec![FILL; room.out], totals: vec![FILL; room.totals] };
     match fold {
         Err((number, offset)) => w.code = u64::from(*number) + 256 * *offset as u64,
         Ok(f) => {
@@ -64,12 +87,11 @@ pub fn written(fold: &Fold, out: usize, totals: usize) -> Written {
     w
 }
 
-/// What restore returns, and what it leaves in the slice lent to it; 13, last: the slice is not 92 bytes.
-pub fn handed(restored: &Restored, frame: usize) -> (u64, Vec<u8>) {
+/// What restore returns, and what it leaves in the slice lent to it.
+pub fn handed(restored: &Restored, length: usize) -> (u64, Vec<u8>) {
     match restored {
-        Err(number) => (u64::from(*number), vec![FILL; frame]),
-        Ok(bytes) if bytes.len() == frame => (0, bytes.clone()),
-        Ok(_) => (13, vec![FILL; frame]),
+        Err(number) => (u64::from(*number), vec![FILL; length]),
+        Ok(bytes) => (0, bytes.clone()),
     }
 }
 

@@ -1,23 +1,35 @@
 //! Whether a fold or a restore can be told from the Rust's, by which journal, and whether the random journals tell each wrong
 //! rule from it.
 use super::brief::{say_parts, shown};
-use super::generate::{journal, park_bytes, parts};
+use super::case::{Case, Restore};
+use super::generate::{journal, parts};
 use super::model::Model;
 use super::original::Original;
-use super::outcome::{line, Fold, Restored};
+use super::outcome::{line, with_room, Fold, Room, AMPLE, FRAME_SIZE, TOTALS_SIZE};
 use super::wrong::Wrong;
 use crate::hex::hex;
 use crate::shrink::shrink;
 
-/// The smallest part of a journal on which the Rust and another fold differ.
-pub fn show(bytes: &[u8], seed: u64, original: &Original, other: impl Fn(&[u8]) -> Fold) {
-    let smallest = shrink(&parts(bytes), |parts| {
+/// The smallest part of a journal on which the Rust and another fold differ, on slices of these lengths.
+fn smallest(case: &Case, room: Room, original: &Original, other: impl Fn(&[u8]) -> Fold) -> Vec<Vec<u8>> {
+    shrink(&parts(&case.journal), |parts| {
         let bytes = parts.concat();
-        original.fold(&bytes, seed).0 != other(&bytes)
-    });
+        with_room(original.fold(&bytes, case.seed).0, room) != other(&bytes)
+    })
+}
+
+/// That part, with both answers.
+pub fn show(case: &Case, room: Room, original: &Original, other: impl Fn(&[u8]) -> Fold) {
+    let smallest = smallest(case, room, original, &other);
     let bytes = smallest.concat();
-    say_parts(&smallest);
-    say_both(&original.fold(&bytes, seed).0, &other(&bytes));
+    match smallest.len() {
+        0..=20 => say_parts(&smallest),
+        many => println!("    {many} records, {} bytes", bytes.len()),
+    }
+    if room != AMPLE {
+        println!("    an output of {} bytes, a second slice of {}", room.out, room.totals);
+    }
+    say_both(&with_room(original.fold(&bytes, case.seed).0, room), &other(&bytes));
 }
 
 fn say_both(rust: &Fold, other: &Fold) {
@@ -31,66 +43,67 @@ fn say_both(rust: &Fold, other: &Fold) {
     }
 }
 
-/// A smallest journal, from the random ones of these seeds, that tells a wrong rule from the Rust by its fold or by the
-/// restore of a pending record.
-pub fn smallest_for(wrong: Wrong, seed: u64, journals: u64, original: &Original) -> Option<Vec<u8>> {
-    let model = Model::with(wrong);
-    (seed..seed + journals).find_map(|next| {
-        let differs = |bytes: &[u8]| {
-            let (fold, restored) = original.fold(bytes, next);
-            let pending = fold.as_ref().map_or(&[][..], |f| &f.pending);
-            model.fold(bytes) != fold || pending.iter().zip(&restored).any(|(p, x)| model.restore(p) != *x)
-        };
-        let bytes = journal(next);
-        differs(&bytes).then(|| shrink(&parts(&bytes), |parts| differs(&parts.concat())).concat())
-    })
+/// What tells a model with a wrong rule from the Rust.
+enum Telling<'a> {
+    Fold(Room),
+    Restore(&'a Restore),
 }
 
-/// What the Rust answers to one random journal.
-pub struct Answered {
-    seed: u64,
-    journal: Vec<u8>,
-    fold: Fold,
-    /// The pending records, and one record more, each with what restore answers.
-    restores: Vec<(Vec<u8>, Restored)>,
+fn telling<'a>(case: &'a Case, model: &Model) -> Option<Telling<'a>> {
+    if model.fold(&case.journal) != case.fold {
+        return Some(Telling::Fold(AMPLE));
+    }
+    if model.fold_into(&case.journal, case.room) != case.narrow {
+        return Some(Telling::Fold(case.room));
+    }
+    case.restores.iter().find(|x| model.restore_into(&x.record, x.length) != x.answer).map(Telling::Restore)
 }
 
 /// The Rust's answers to so many journals, to hold the wrong rules against.
-pub fn answered(seed: u64, journals: u64, original: &Original) -> Vec<Answered> {
-    let one = |seed: u64| {
-        let journal = journal(seed);
-        let (fold, restored) = original.fold(&journal, seed);
-        let pending = fold.as_ref().map_or(Vec::new(), |f| f.pending.clone());
-        let mut restores: Vec<(Vec<u8>, Restored)> = pending.into_iter().zip(restored).collect();
-        let alone = park_bytes(seed);
-        restores.push((alone.clone(), original.restore(&alone, seed)));
-        Answered { seed, journal, fold, restores }
-    };
-    (seed..seed + journals).map(one).collect()
+pub fn answered(seed: u64, journals: u64, original: &Original) -> Vec<Case> {
+    (seed..seed + journals).map(|seed| Case::new(journal(seed), seed, original)).collect()
 }
 
 /// Tells a wrong rule from the Rust by its fold or a restore, and says by which journal.
-pub fn catches(wrong: Wrong, says: &str, answered: &[Answered], original: &Original) -> bool {
+pub fn catches(wrong: Wrong, says: &str, cases: &[Case], original: &Original) -> bool {
     let model = Model::with(wrong);
-    let unlike = |(record, restored): &&(Vec<u8>, Restored)| model.restore(record) != *restored;
-    let tells = |a: &&Answered| model.fold(&a.journal) != a.fold || a.restores.iter().any(|x| unlike(&x));
-    let caught: Vec<&Answered> = answered.iter().filter(tells).collect();
-    let Some(first) = caught.first() else {
+    let caught: Vec<(&Case, Telling)> =
+        cases.iter().filter_map(|case| telling(case, &model).map(|found| (case, found))).collect();
+    let Some((first, found)) = caught.first() else {
         println!("  NOT CAUGHT {wrong:?}: {says}");
         return false;
     };
-    println!(
-        "  {wrong:?}: {says}; shows in {} of {} journals, first in journal {}, smallest:",
-        caught.len(),
-        answered.len(),
-        first.seed
-    );
-    if model.fold(&first.journal) != first.fold {
-        show(&first.journal, first.seed, original, |bytes| model.fold(bytes));
-    } else if let Some((record, restored)) = first.restores.iter().find(unlike) {
-        say_parts(std::slice::from_ref(record));
-        println!("      the Rust: {}", shown(restored));
-        println!("      other:    {}", shown(&model.restore(record)));
+    let (journals, of, seed) = (caught.len(), cases.len(), first.seed);
+    println!("  {wrong:?}: {says}; shows in {journals} of {of} journals, first in journal {seed}, smallest:");
+    match found {
+        Telling::Fold(room) => show(first, *room, original, |bytes| model.fold_into(bytes, *room)),
+        Telling::Restore(x) => {
+            say_parts(std::slice::from_ref(&x.record));
+            println!("      the Rust: {}, slice {}", shown(&x.answer), x.length);
+            println!("      other:    {}", shown(&model.restore_into(&x.record, x.length)));
+        }
     }
     true
+}
+
+/// An input that tells a wrong rule from the Rust.
+pub enum Smallest {
+    /// A journal, and how many bytes are lent to its fold.
+    Journal(Vec<u8>, usize),
+    /// One record to restore.
+    Park(Vec<u8>),
+}
+
+/// A smallest input, from these journals, that tells a wrong rule from the Rust where the second slice of a fold and the slice
+/// of a restore are as long as they should be.
+pub fn smallest_for(wrong: Wrong, cases: &[Case], original: &Original) -> Option<Smallest> {
+    let model = Model::with(wrong);
+    cases.iter().find_map(|case| match telling(case, &model)? {
+        Telling::Fold(room) if room.totals == TOTALS_SIZE => {
+            let parts = smallest(case, room, original, |bytes| model.fold_into(bytes, room));
+            Some(Smallest::Journal(parts.concat(), room.out))
+        }
+        Telling::Restore(x) if x.length == FRAME_SIZE => Some(Smallest::Park(x.record.clone())),
+        _ => None,
+    })
 }

@@ -10,47 +10,24 @@ use super::strength::show;
 use super::{generate, menu};
 use crate::hex::hex;
 use crate::report::tell;
+use crate::seen::{see_call, Kind, Seen};
 use crate::shrink::shrink;
-use std::collections::BTreeMap;
 use std::fmt;
 
-/// What was run, and how often the Rust and another side differed.
+/// What was run, what it met, and how often the Rust and another side differed.
 #[derive(Default)]
 pub struct Counts {
     pub scripts: usize,
     pub calls: usize,
-    pub dumps: usize,
-    pub refused: BTreeMap<u8, usize>,
-    pub rows: [usize; 3],
-    pub broken: usize,
+    pub seen: Seen,
     pub model: usize,
     pub replay: usize,
     pub replayed: usize,
 }
 
-impl Counts {
-    fn see(&mut self, script: &Script, answers: &[Answer]) {
-        self.scripts += 1;
-        self.calls += answers.len();
-        self.broken += usize::from(!script.broken.is_empty());
-        for answer in answers {
-            match answer {
-                Answer::Dump(_) => self.dumps += 1,
-                Answer::Refused(n) => *self.refused.entry(*n).or_default() += 1,
-                Answer::Rows(rows) => rows.iter().for_each(|row| self.rows[row[1] as usize - 1] += 1),
-                _ => {}
-            }
-        }
-    }
-}
-
 impl fmt::Display for Counts {
     fn fmt(&self, f: &mut fmt::Formatter<'_>) -> fmt::Result {
-        let [rescued, consumed, waiting] = self.rows;
-        write!(f, "{} scripts, {} calls, {} of them dumps of the whole store; ", self.scripts, self.calls, self.dumps)?;
-        write!(f, "{} scripts that break off; ", self.broken)?;
-        write!(f, "rows Rescue {rescued}, NonceConsumed {consumed}, StillWaiting {waiting}; refusals {:?}; ", self.refused)?;
-        write!(f, "differences from the model {}; ", self.model)?;
+        write!(f, "{} scripts, {} calls; differences from the model {}; ", self.scripts, self.calls, self.model)?;
         write!(f, "{} scripts given to replay, {} runs of it that differ", self.replayed, self.replay)
     }
 }
@@ -76,19 +53,36 @@ impl<'a> Comparison<'a> {
             self.finish();
         }
         let (lines, answers) = script.lines(self.batch.scripts.len(), &mut Original::default());
-        if let Some(place) = differs(&script.calls, &mut Model::default(), &answers) {
+        self.counts.scripts += 1;
+        self.counts.calls += answers.len();
+        if let Some(place) = self.beside_model(&script, &answers) {
             self.counts.model += 1;
             if tell() {
                 println!("DIFFERENCE between the Rust and the model:");
                 show(&script.calls[..=place], || Box::new(Model::default()));
             }
         }
-        self.counts.see(&script, &answers);
         if self.replay.is_some() {
             self.batch.input.extend_from_slice(&led(&bytes));
             self.batch.lines.push_str(&lines);
             self.batch.scripts.push(script);
         }
+    }
+
+    /// The first place at which the model answers something else than the Rust; up to there, what the Rust answers is seen.
+    fn beside_model(&mut self, script: &Script, answers: &[Answer]) -> Option<usize> {
+        let seen = &mut self.counts.seen;
+        let mut model = Model::default();
+        for (place, (call, answer)) in script.calls.iter().zip(answers).enumerate() {
+            see_call(seen, call, &model, answer);
+            if model.answer(call) != *answer {
+                return Some(place);
+            }
+        }
+        if !script.broken.is_empty() {
+            seen.see(Kind::Bad);
+        }
+        None
     }
 
     /// Gives our program what is gathered.
@@ -121,11 +115,6 @@ fn show_replay(script: &Script, replay: &Replay) {
     println!("  smallest script: {}", hex(&smallest.bytes()));
     smallest.calls.iter().for_each(|call| println!("    {}", brief(call)));
     print!("  the Rust:\n{}  replay:\n{}", rust(&smallest), replay.lines(&smallest));
-}
-
-/// The first place at which a side answers something else.
-fn differs(calls: &[Call], side: &mut dyn Side, answers: &[Answer]) -> Option<usize> {
-    (0..calls.len()).find(|i| side.answer(&calls[*i]) != answers[*i])
 }
 
 /// Document 01's examples: the answers that it states, from the Rust and from the others. Says how many hold.

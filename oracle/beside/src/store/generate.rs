@@ -1,11 +1,13 @@
 //! Random scripts aimed at the corners: few senders and hashes, nonces close together or near 2^64, heads at the claim,
-//! guards that match or nearly match, revivals, hashes pushed twice and by two senders, refused calls between.
+//! guards that match or nearly match, revivals, hashes pushed twice and by two senders, calls at the limits and past them.
 //! The script's maker plays its calls on the model, so that it can aim at what the store holds.
 use super::answers::{Entry, State};
 use super::calls::{Address, Call, Consumed, Content, Frame, GuardCall, Hash, Side};
 use super::model::Model;
 use super::script::{read_script, write_call, Script};
 use crate::random::Random;
+
+mod limits;
 
 struct Maker {
     r: Random,
@@ -29,6 +31,9 @@ pub fn script(seed: u64) -> Script {
     }
     if m.r.once_in(60) {
         m.fill_guards();
+    }
+    if m.calls.len() > 40 {
+        m.two_causes();
     }
     while m.calls.len() < length {
         m.scene();
@@ -158,7 +163,7 @@ impl Maker {
             _ => (1, 21_000),
         };
         self.ticket += 1;
-        let ticket = if self.r.once_in(9) { self.r.next() } else { self.ticket };
+        let ticket = if self.r.once_in(9) { self.r.draw() } else { self.ticket };
         Frame { hash: self.hash(), from: self.sender(), expected, claim, chain_id, gas, ticket }
     }
 
@@ -217,7 +222,7 @@ impl Maker {
                 known.remove(i);
             }
             3 => known.push(f.claim),
-            4 => known.push(self.r.next()),
+            4 => known.push(self.r.draw()),
             _ => {}
         }
         if self.r.once_in(2) {
@@ -248,7 +253,7 @@ impl Maker {
                 3 => pairs.insert(i + 1, (pairs[i].0, other)),
                 4 => pairs.clear(),
                 5 => pairs.reverse(),
-                6 => pairs.insert(0, (self.r.next(), other)),
+                6 => pairs.insert(0, (self.r.draw(), other)),
                 _ => {}
             }
         }
@@ -578,6 +583,7 @@ impl Maker {
             }
             16 => self.guard(),
             17 => self.hold_through_revival(),
+            18 if self.r.once_in(4) => self.at_a_limit(),
             _ => self.read(),
         }
     }

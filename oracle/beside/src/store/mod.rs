@@ -11,6 +11,7 @@ pub mod menu;
 pub mod model;
 pub mod order;
 pub mod original;
+mod refusals;
 pub mod replay;
 pub mod script;
 pub mod strength;

@@ -2,6 +2,7 @@
 //! A wrong rule may be planted in it.
 use super::answers::{Answer, Dump, Entry, Guard, Row, State};
 use super::calls::{Address, Call, Consumed, Content, Frame, GuardCall, Hash, Side};
+use super::refusals;
 use super::wrong::Wrong;
 
 #[derive(Clone, Default)]
@@ -29,12 +30,12 @@ impl Model {
         f.chain_id == 0 && f.gas == 0
     }
 
-    /// Every n with expected <= n < claim.
+    /// Every n with expected <= n < claim; more than 16 only a wrong rule lets in.
     fn gap(&self, f: &Frame) -> Vec<u64> {
         if self.plants(Wrong::GapHasClaim) && f.expected <= f.claim {
             return (f.expected..=f.claim).take(16).collect();
         }
-        (f.expected..f.claim).collect()
+        (f.expected..f.claim).take(16).collect()
     }
 
     fn predecessors(&self, f: &Frame, head: u64) -> Vec<u64> {
@@ -111,23 +112,19 @@ impl Model {
     }
 
     fn guard(&mut self, call: &GuardCall) -> Answer {
-        if call.predecessors.len() > 16 {
-            return Answer::Refused(6);
-        }
-        if call.content.len() % 32 != 0 || call.content.len() / 32 > 16 {
-            return Answer::Refused(7);
+        if let Some(number) = refusals::of_guard(self.wrong, call, &self.guards) {
+            if self.plants(Wrong::RefusedGuardDrops) {
+                self.drop_guard(call.hash);
+            }
+            return Answer::Refused(number);
         }
         let guard = Guard {
             hash: call.hash,
             boundary: call.boundary,
             predecessors: call.predecessors.clone(),
-            content: call.content.chunks(32).map(|h| h.try_into().expect("whole hashes")).collect(),
+            content: call.content.chunks_exact(32).map(|h| h.try_into().expect("32 bytes")).collect(),
         };
-        let held = self.guards.iter().position(|g| g.hash == call.hash);
-        if self.guards.len() >= 64 && (held.is_none() || self.plants(Wrong::GuardRefusedByCount)) {
-            return Answer::Refused(8);
-        }
-        match held {
+        match self.guards.iter().position(|g| g.hash == call.hash) {
             Some(_) if self.plants(Wrong::GuardFirstStays) => {}
             Some(i) => self.guards[i] = guard,
             None => self.guards.push(guard),
@@ -138,11 +135,12 @@ impl Model {
     // ---- poll
 
     fn poll(&mut self, sender: Address, head: u64, known: &[u64], content: Option<&Content>) -> Answer {
-        if known.len() > 256 {
-            return Answer::Refused(3);
-        }
-        if content.is_some_and(|c| c.nonces.len() > 64 || c.hashes.len() != 32 * c.nonces.len()) {
-            return Answer::Refused(4);
+        if let Some(number) = refusals::of_poll(self.wrong, known, content) {
+            if self.plants(Wrong::RefusedPollHolds) {
+                let holds = |e: &&mut Entry| e.frame.from == sender && e.state == State::Tracked && head <= e.frame.claim;
+                self.entries.iter_mut().filter(holds).for_each(|e| e.held = Some(head));
+            }
+            return Answer::Refused(number);
         }
         let start = self.guards.clone();
         let mut rows = Vec::new();
@@ -209,7 +207,7 @@ impl Model {
         let guards = if self.plants(Wrong::GuardsAsAtStart) { start } else { &self.guards };
         let guarded = Self::guard_of(guards, f.hash).is_some_and(|g| self.guard_matches(g, &f, head, content));
         // 5
-        if !unknown.is_empty() && !(self.plants(Wrong::GuardBeforeUnknown) && guarded) {
+        if !(unknown.is_empty() || self.plants(Wrong::GuardBeforeUnknown) && guarded) {
             say(3, &unknown);
             return true;
         }
@@ -229,19 +227,14 @@ impl Model {
     // ---- the other calls that change the store
 
     fn push(&mut self, f: &Frame) -> Answer {
-        let most = if self.plants(Wrong::SixteenRefused) { 15 } else { 16 };
-        if f.claim.saturating_sub(f.expected) > most || self.plants(Wrong::BelowRefused) && f.claim < f.expected {
-            return Answer::Refused(1);
+        let refusal = refusals::of_push(self.wrong, f, &self.entries);
+        if refusal.is_none() || refusal == Some(1) && self.plants(Wrong::RefusedPushHeld) {
+            let place = self.entries.iter().position(|e| e.frame.from > f.from).unwrap_or(self.entries.len());
+            let place = if self.plants(Wrong::WalkInPushOrder) { self.entries.len() } else { place };
+            self.entries.insert(place, Entry { frame: f.clone(), state: State::Tracked, held: None });
         }
-        let tracked = self.entries.iter().filter(|e| e.state == State::Tracked).count();
-        let held = if self.plants(Wrong::FullByTracked) { tracked } else { self.entries.len() };
-        if held >= 64 {
-            return Answer::Refused(2);
-        }
-        let place = self.entries.iter().position(|e| e.frame.from > f.from).unwrap_or(self.entries.len());
-        let place = if self.plants(Wrong::WalkInPushOrder) { self.entries.len() } else { place };
-        self.entries.insert(place, Entry { frame: f.clone(), state: State::Tracked, held: None });
-        Answer::Total(if self.plants(Wrong::TotalOfTracked) { tracked + 1 } else { self.entries.len() } as u64)
+        let counts = |e: &&Entry| e.state == State::Tracked || !self.plants(Wrong::TotalOfTracked);
+        refusal.map_or(Answer::Total(self.entries.iter().filter(counts).count() as u64), Answer::Refused)
     }
 
     fn enter(&mut self, hash: Hash, consumed: Consumed) -> Answer {
@@ -336,7 +329,7 @@ impl Model {
 
     fn state(&self, hash: Hash) -> Option<State> {
         let mut found = self.entries.iter().filter(|e| e.frame.hash == hash);
-        let entry = if self.plants(Wrong::StateOfLast) { found.last() } else { found.next() };
+        let entry = if self.plants(Wrong::StateOfLast) { found.next_back() } else { found.next() };
         entry.map(|e| e.state)
     }
 

@@ -1,4 +1,5 @@
 //! Whether a side can be told from the Rust, by which calls, and whether the random scripts tell each wrong rule from it.
+use super::answers::Answer;
 use super::brief::brief;
 use super::calls::{Call, Side};
 use super::generate;
@@ -37,30 +38,38 @@ pub fn smallest_for(wrong: Wrong, seed: u64, scripts: u64) -> Option<Vec<Call>> 
     })
 }
 
-/// The first random script, of so many, that tells a wrong rule from the Rust by an answer; dumps are left out. Says in how
-/// many of the first scripts it shows.
-pub fn catches(wrong: Wrong, says: &str, seed: u64, scripts: u64) -> bool {
-    let mut first = None;
-    let mut caught = 0;
-    for next in seed..seed + scripts {
-        let mut calls = generate::script(next).calls;
+/// One random script without its dumps, and what the Rust answers to it.
+pub struct Answered {
+    seed: u64,
+    calls: Vec<Call>,
+    answers: Vec<Answer>,
+}
+
+/// The Rust's answers to so many scripts, to hold the wrong rules against.
+pub fn answered(seed: u64, scripts: u64) -> Vec<Answered> {
+    let one = |seed: u64| {
+        let mut calls = generate::script(seed).calls;
         calls.retain(|call| *call != Call::Dump);
-        if let Some(place) = tells(&calls, &mut Model::with(wrong)) {
-            caught += 1;
-            if first.is_none() {
-                first = Some((next, calls[..=place].to_vec()));
-            }
-        }
-    }
-    match first {
-        None => {
-            println!("  NOT CAUGHT {wrong:?}: {says}");
-            false
-        }
-        Some((script, calls)) => {
-            println!("  {wrong:?}: {says}; shows in {caught} of {scripts} scripts, first in script {script}, smallest:");
-            show(&calls, || Box::new(Model::with(wrong)));
-            true
-        }
-    }
+        let mut original = Original::default();
+        let answers = calls.iter().map(|call| original.answer(call)).collect();
+        Answered { seed, calls, answers }
+    };
+    (seed..seed + scripts).map(one).collect()
+}
+
+/// Tells a wrong rule from the Rust by an answer. Says in how many of the scripts it shows, and the smallest part of the first.
+pub fn catches(wrong: Wrong, says: &str, answered: &[Answered]) -> bool {
+    let place = |a: &Answered| {
+        let mut model = Model::with(wrong);
+        a.calls.iter().zip(&a.answers).position(|(call, answer)| model.answer(call) != *answer)
+    };
+    let caught: Vec<(&Answered, usize)> = answered.iter().filter_map(|a| place(a).map(|place| (a, place))).collect();
+    let Some((first, place)) = caught.first() else {
+        println!("  NOT CAUGHT {wrong:?}: {says}");
+        return false;
+    };
+    let (scripts, of, script) = (caught.len(), answered.len(), first.seed);
+    println!("  {wrong:?}: {says}; shows in {scripts} of {of} scripts, first in script {script}, smallest:");
+    show(&first.calls[..=*place], || Box::new(Model::with(wrong)));
+    true
 }

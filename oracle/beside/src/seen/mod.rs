@@ -1,0 +1,122 @@
+//! What a run has met: each refusal and each kind of answer, counted from the Rust's own answers. A kind that a run did not
+//! meet fails it.
+mod journal;
+mod store;
+
+pub use journal::{see_fold, see_restore};
+use std::collections::BTreeMap;
+pub use store::see_call;
+
+sayings! { Kind {
+    Push1: "push refused 1",
+    Push2: "push refused 2",
+    PushTotal: "push: a total",
+    Poll3: "poll refused 3",
+    Poll4: "poll refused 4",
+    PollNobody: "poll: a sender with no entry",
+    RescueNonces: "poll: Rescue with nonces",
+    RescueNone: "poll: Rescue without nonces",
+    Consumed: "poll: NonceConsumed",
+    ConsumedDegraded: "poll: NonceConsumed of a degraded frame",
+    WaitsUnknown: "poll: StillWaiting by unknown nonces",
+    WaitsGuardNonces: "poll: StillWaiting by a guard, with nonces",
+    WaitsGuardNone: "poll: StillWaiting by a guard, without nonces",
+    WaitsDegradedNonces: "poll: StillWaiting of a degraded frame, with nonces",
+    WaitsDegradedNone: "poll: StillWaiting of a degraded frame, without nonces",
+    SilentHeld: "poll: no row of a held degraded frame",
+    SilentTentative: "poll: no row of a tentative frame",
+    Guard6: "guard refused 6",
+    Guard7: "guard refused 7",
+    Guard8: "guard refused 8",
+    GuardNew: "guard: a first one of its hash",
+    GuardReplaced: "guard: another one of its hash",
+    EnterTrue: "enter: true",
+    EnterFalse: "enter: false",
+    EvictNone: "evict: no ticket",
+    EvictSome: "evict: tickets",
+    ReorgNone: "reorganisation: no ticket",
+    ReorgSome: "reorganisation: tickets",
+    DeadNone: "finality: nothing dead",
+    DeadMined: "finality: dead of kind 1",
+    DeadTaken: "finality: dead of kind 2",
+    DeadTakenBy: "finality: dead of kind 3",
+    StateNone: "state: none",
+    StateTracked: "state: tracked",
+    StateMined: "state: tentative of kind 1",
+    StateTaken: "state: tentative of kind 2",
+    StateTakenBy: "state: tentative of kind 3",
+    BoundaryNone: "expected_boundary: none",
+    BoundarySome: "expected_boundary: some",
+    BlocksNone: "tentative_blocks: none",
+    BlocksSome: "tentative_blocks: some",
+    LenZero: "len: 0",
+    LenMore: "len: more",
+    SendersNone: "senders: none",
+    SendersSome: "senders: some",
+    TentativeZero: "tentative_count: 0",
+    TentativeMore: "tentative_count: more",
+    KnownGapNone: "pool_known_gap: none",
+    KnownGapSome: "pool_known_gap: some",
+    HasGuardTrue: "has_guard_for_sender: true",
+    HasGuardFalse: "has_guard_for_sender: false",
+    Dump: "dump",
+    Bad: "script that breaks off: bad",
+    Fold9: "fold refused 9",
+    Fold10: "fold refused 10",
+    Fold11: "fold refused 11",
+    Fold12: "fold refused 12",
+    Fold13: "fold refused 13",
+    ParkInserted: "QP: inserted",
+    ParkReplaced: "QP: replaced",
+    TentativeFound: "QT: key found",
+    TentativeLost: "QT: key not found",
+    ResolveFound: "QR: key found",
+    ResolveLost: "QR: key not found",
+    LegacySkipped: "QL: skipped",
+    LegacyFull: "QL: migrated full",
+    LegacyDegraded: "QL: migrated degraded",
+    Other: "QX",
+    EndByte: "fold: unfinished end of one byte",
+    EndMark: "fold: unfinished end with a mark",
+    EndWhole: "fold: whole end",
+    Restore11: "restore refused 11",
+    Restore13: "restore refused 13",
+    Restore14: "restore refused 14",
+    Restore15: "restore refused 15",
+    Restore16: "restore refused 16",
+    RestoreFull: "restore: full",
+    RestoreDegraded: "restore: degraded",
+}}
+
+/// How often each kind was met.
+#[derive(Clone, Default)]
+pub struct Seen(BTreeMap<Kind, u64>);
+
+impl Seen {
+    pub fn see(&mut self, kind: Kind) {
+        self.times(kind, 1);
+    }
+
+    pub fn times(&mut self, kind: Kind, count: u64) {
+        *self.0.entry(kind).or_default() += count;
+    }
+
+    pub fn add(&mut self, other: &Seen) {
+        other.0.iter().for_each(|(kind, count)| self.times(*kind, *count));
+    }
+
+    fn count(&self, kind: Kind) -> u64 {
+        self.0.get(&kind).copied().unwrap_or(0)
+    }
+
+    /// Prints the table, and says how many kinds were met.
+    pub fn table(&self) -> usize {
+        for (kind, says) in ALL {
+            match self.count(*kind) {
+                0 => println!("  NOT SEEN {says}"),
+                count => println!("  {says}: {count}"),
+            }
+        }
+        ALL.iter().filter(|(kind, _)| self.count(*kind) > 0).count()
+    }
+}

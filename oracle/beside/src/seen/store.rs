@@ -1,0 +1,104 @@
+//! The kinds that one call of the store meets. What a frame was before the call is read from the model, which is held beside
+//! the Rust on every call.
+use super::{Kind, Seen};
+use crate::store::answers::{Answer, Entry, Row, State};
+use crate::store::calls::{Address, Call};
+use crate::store::model::Model;
+
+/// Notes what the Rust answers to a call, made when the store was as the model has it.
+pub fn see_call(seen: &mut Seen, call: &Call, before: &Model, answer: &Answer) {
+    match (call, answer) {
+        (Call::Poll { sender, head, known, .. }, Answer::Rows(rows)) => see_poll(seen, *sender, *head, known, before, rows),
+        (Call::Guard(g), Answer::Done) => {
+            let held = before.guards.iter().any(|held| held.hash == g.hash);
+            seen.see(if held { Kind::GuardReplaced } else { Kind::GuardNew });
+        }
+        (_, Answer::Dead(list)) => {
+            list.iter().for_each(|(_, c)| seen.see(consumed(c.kind, DEAD)));
+            if list.is_empty() {
+                seen.see(Kind::DeadNone);
+            }
+        }
+        _ => seen.see(kind(call, answer)),
+    }
+}
+
+const DEAD: [Kind; 3] = [Kind::DeadMined, Kind::DeadTaken, Kind::DeadTakenBy];
+const STATE: [Kind; 3] = [Kind::StateMined, Kind::StateTaken, Kind::StateTakenBy];
+
+/// Kind 1, 2 or 3 of a consumed nonce.
+fn consumed(number: u8, kinds: [Kind; 3]) -> Kind {
+    kinds[usize::from(number) - 1]
+}
+
+/// The kind of an answer that has one kind whatever the store was.
+fn kind(call: &Call, answer: &Answer) -> Kind {
+    let either = |first: bool, yes: Kind, no: Kind| if first { yes } else { no };
+    match (call, answer) {
+        (_, Answer::Refused(number)) => refused(*number),
+        (_, Answer::Total(_)) => Kind::PushTotal,
+        (Call::Enter { .. }, Answer::Truth(b)) => either(*b, Kind::EnterTrue, Kind::EnterFalse),
+        (_, Answer::Truth(b)) => either(*b, Kind::HasGuardTrue, Kind::HasGuardFalse),
+        (Call::Evict { .. }, Answer::Tickets(list)) => either(list.is_empty(), Kind::EvictNone, Kind::EvictSome),
+        (_, Answer::Tickets(list)) => either(list.is_empty(), Kind::ReorgNone, Kind::ReorgSome),
+        (_, Answer::State(None)) => Kind::StateNone,
+        (_, Answer::State(Some(State::Tracked))) => Kind::StateTracked,
+        (_, Answer::State(Some(State::Tentative(c)))) => consumed(c.kind, STATE),
+        (_, Answer::Boundary(n)) => either(n.is_none(), Kind::BoundaryNone, Kind::BoundarySome),
+        (_, Answer::Blocks(list)) => either(list.is_empty(), Kind::BlocksNone, Kind::BlocksSome),
+        (_, Answer::Numbers(list)) => either(list.is_empty(), Kind::KnownGapNone, Kind::KnownGapSome),
+        (_, Answer::Senders(list)) => either(list.is_empty(), Kind::SendersNone, Kind::SendersSome),
+        (Call::Len, Answer::Number(n)) => either(*n == 0, Kind::LenZero, Kind::LenMore),
+        (_, Answer::Number(n)) => either(*n == 0, Kind::TentativeZero, Kind::TentativeMore),
+        (_, Answer::Dump(_)) => Kind::Dump,
+        (_, Answer::Rows(_) | Answer::Done | Answer::Dead(_)) => panic!("{} does not answer so", call.mark()),
+    }
+}
+
+fn refused(number: u8) -> Kind {
+    match number {
+        1 => Kind::Push1,
+        2 => Kind::Push2,
+        3 => Kind::Poll3,
+        4 => Kind::Poll4,
+        6 => Kind::Guard6,
+        7 => Kind::Guard7,
+        8 => Kind::Guard8,
+        _ => panic!("no script is refused {number}"),
+    }
+}
+
+/// Every entry of the sender has a row, or a reason to have none.
+fn see_poll(seen: &mut Seen, sender: Address, head: u64, known: &[u64], before: &Model, rows: &[Row]) {
+    let mut rows = rows.iter();
+    let mut any = false;
+    for entry in before.entries.iter().filter(|e| e.frame.from == sender) {
+        any = true;
+        if entry.state != State::Tracked {
+            seen.see(Kind::SilentTentative);
+        } else if before.degraded(&entry.frame) && entry.held == Some(head) && head <= entry.frame.claim {
+            seen.see(Kind::SilentHeld);
+        } else if let Some(row) = rows.next() {
+            seen.see(of_row(row, entry, known, before));
+        }
+    }
+    if !any {
+        seen.see(Kind::PollNobody);
+    }
+}
+
+/// A guard's row lists predecessors, which are all known; a row for want of nonces lists those that are not.
+fn of_row(row: &Row, entry: &Entry, known: &[u64], before: &Model) -> Kind {
+    let nonces = &row[3..3 + row[2] as usize];
+    match (row[1], before.degraded(&entry.frame), nonces.is_empty()) {
+        (1, _, true) => Kind::RescueNone,
+        (1, _, false) => Kind::RescueNonces,
+        (2, false, _) => Kind::Consumed,
+        (2, true, _) => Kind::ConsumedDegraded,
+        (_, true, true) => Kind::WaitsDegradedNone,
+        (_, true, false) => Kind::WaitsDegradedNonces,
+        (_, false, true) => Kind::WaitsGuardNone,
+        (_, false, false) if known.contains(&nonces[0]) => Kind::WaitsGuardNonces,
+        _ => Kind::WaitsUnknown,
+    }
+}

@@ -1,0 +1,66 @@
+//! Document 01's table of refusals for the store, in its order, and what wrong rules make of it.
+use super::answers::{Entry, Guard, State};
+use super::calls::{Content, Frame, GuardCall};
+use super::wrong::Wrong;
+
+/// Whether a number is over its limit, or over what a wrong rule makes of it: one more, or one less.
+fn over(wrong: Option<Wrong>, number: u64, limit: u64, more: Wrong, less: Wrong) -> bool {
+    let limit = match wrong {
+        Some(w) if w == more => limit + 1,
+        Some(w) if w == less => limit - 1,
+        _ => limit,
+    };
+    number > limit
+}
+
+/// The first refusal of a table that holds. In a wrong order two of them have changed places.
+fn first(wrong: Option<Wrong>, table: &mut [(u8, bool)]) -> Option<u8> {
+    let (a, b) = match wrong {
+        Some(Wrong::TwoBeforeOne) => (1, 2),
+        Some(Wrong::FourBeforeThree) => (3, 4),
+        Some(Wrong::SevenBeforeSix) => (6, 7),
+        Some(Wrong::EightBeforeSix) => (6, 8),
+        Some(Wrong::EightBeforeSeven) => (7, 8),
+        _ => (0, 0),
+    };
+    let place = |number: u8| table.iter().position(|(n, _)| *n == number);
+    if let (Some(i), Some(j)) = (place(a), place(b)) {
+        table.swap(i, j);
+    }
+    table.iter().find(|(_, holds)| *holds).map(|(number, _)| *number)
+}
+
+pub fn of_push(wrong: Option<Wrong>, f: &Frame, entries: &[Entry]) -> Option<u8> {
+    let gap = f.claim.saturating_sub(f.expected);
+    let below = wrong == Some(Wrong::BelowRefused) && f.claim < f.expected;
+    let wide = over(wrong, gap, 16, Wrong::SeventeenTaken, Wrong::SixteenRefused) || below;
+    let counts = |e: &&Entry| e.state == State::Tracked || wrong != Some(Wrong::FullByTracked);
+    let then = entries.iter().filter(counts).count() as u64 + 1;
+    let full = over(wrong, then, 64, Wrong::SixtyFifthHeld, Wrong::SixtyFourthRefused);
+    first(wrong, &mut [(1, wide), (2, full)])
+}
+
+pub fn of_poll(wrong: Option<Wrong>, known: &[u64], content: Option<&Content>) -> Option<u8> {
+    let many = over(wrong, known.len() as u64, 256, Wrong::KnownOneMore, Wrong::KnownOneLess);
+    let unfit = content.is_some_and(|c| {
+        let (bytes, due) = (c.hashes.len(), 32 * c.nonces.len());
+        let unequal = match wrong {
+            Some(Wrong::HashBytesIgnored) => false,
+            Some(Wrong::HashBytesFewer) => bytes > due,
+            Some(Wrong::HashBytesMore) => bytes < due,
+            Some(Wrong::HashBytesWhole) => bytes % 32 != 0,
+            _ => bytes != due,
+        };
+        unequal || over(wrong, c.nonces.len() as u64, 64, Wrong::PairsOneMore, Wrong::PairsOneLess)
+    });
+    first(wrong, &mut [(3, many), (4, unfit)])
+}
+
+pub fn of_guard(wrong: Option<Wrong>, g: &GuardCall, guards: &[Guard]) -> Option<u8> {
+    let many = over(wrong, g.predecessors.len() as u64, 16, Wrong::PredecessorsOneMore, Wrong::PredecessorsOneLess);
+    let part = g.content.len() % 32 != 0 && wrong != Some(Wrong::ContentPart);
+    let unfit = part || over(wrong, g.content.len() as u64 / 32, 16, Wrong::ContentOneMore, Wrong::ContentOneLess);
+    let new = guards.iter().all(|held| held.hash != g.hash) || wrong == Some(Wrong::GuardRefusedByCount);
+    let full = new && over(wrong, guards.len() as u64 + 1, 64, Wrong::SixtyFifthGuard, Wrong::SixtyFourthGuardRefused);
+    first(wrong, &mut [(6, many), (7, unfit), (8, full)])
+}
