@@ -1,8 +1,8 @@
 //! Holds our store and journal beside the published Rust: document 01's examples, random scripts, all short runs, the order
-//! rule, random journals, cuts, restores, and wrong rules. The last line has the counts and the number of
+//! rule, slices of all lengths, random journals, cuts, restores, and wrong rules. The last line has the counts and the number of
 //! differences. A run fails by a difference, by a wrong rule that was not caught, and by a kind of answer that was not seen.
 //!
-//! compare [--replay PROGRAM] [--calls N] [--orders N] [--journals N] [--seed N]
+//! compare [--replay PROGRAM] [--short-slices PROGRAM] [--calls N] [--orders N] [--journals N] [--seed N]
 use beside::intended;
 use beside::journal::original::Original;
 use beside::journal::ours::{ours, Ours};
@@ -11,7 +11,7 @@ use beside::scratch::Scratch;
 use beside::seen::{self, Seen};
 use beside::store::menu::{menu, LONGEST};
 use beside::store::replay::Replay;
-use beside::store::{compare as stores, order, strength as store_strength, wrong as store_wrong};
+use beside::store::{compare as stores, order, slices, strength as store_strength, wrong as store_wrong};
 use std::path::Path;
 use std::process::ExitCode;
 
@@ -28,16 +28,19 @@ struct Sizes {
     journals: u64,
     seed: u64,
     replay: Option<String>,
+    short_slices: Option<String>,
 }
 
 fn sizes() -> Sizes {
-    let mut sizes = Sizes { calls: 1_200_000, orders: 100_000, journals: 100_000, seed: 0, replay: None };
+    let (replay, short_slices) = (None, None);
+    let mut sizes = Sizes { calls: 1_200_000, orders: 100_000, journals: 100_000, seed: 0, replay, short_slices };
     let mut words = std::env::args().skip(1);
     while let Some(word) = words.next() {
         let value = words.next().unwrap_or_else(|| panic!("{word} needs a value"));
         let number = || value.parse::<u64>().unwrap_or_else(|_| panic!("{word} needs a number"));
         match word.as_str() {
             "--replay" => sizes.replay = Some(value),
+            "--short-slices" => sizes.short_slices = Some(value),
             "--calls" => sizes.calls = number() as usize,
             "--orders" => sizes.orders = number(),
             "--journals" => sizes.journals = number(),
@@ -93,6 +96,16 @@ impl Run<'_> {
         self.seen.add(&short.seen);
         self.counts.push(format!("{} store calls", random.calls + short.calls));
         self.counts.push(format!("{} random scripts and {} short runs", random.scripts, short.scripts));
+    }
+
+    fn slices(&mut self) {
+        let lines = slices::lines(&mut self.seen);
+        if let Some(program) = &self.sizes.short_slices {
+            let differences = slices::compare(Path::new(program), &lines);
+            println!("slices: {} lines of short_slices, {differences} differences", lines.len());
+            self.differences += differences;
+            self.counts.push(format!("{} lines of short_slices", lines.len()));
+        }
     }
 
     fn orders(&mut self) {
@@ -152,9 +165,10 @@ impl Run<'_> {
     /// What was held beside the Rust, and what was not given.
     fn sides(&self) -> String {
         let replay = (self.replay.is_some(), "replay");
+        let slices = (self.sizes.short_slices.is_some(), "short_slices");
         let linked = (self.linked.is_some(), "the C functions of fold and restore");
         let named = |wanted: bool| {
-            let of = [replay, linked].into_iter().filter(|(given, _)| *given == wanted).map(|(_, name)| name);
+            let of = [replay, slices, linked].into_iter().filter(|(given, _)| *given == wanted).map(|(_, name)| name);
             of.collect::<Vec<&str>>().join(", ")
         };
         match (named(true), named(false)) {
@@ -183,6 +197,7 @@ fn main() -> ExitCode {
     };
     run.examples();
     run.store();
+    run.slices();
     run.orders();
     run.journal();
     let caught = run.strength();

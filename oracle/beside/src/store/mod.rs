@@ -14,5 +14,6 @@ pub mod original;
 mod refusals;
 pub mod replay;
 pub mod script;
+pub mod slices;
 pub mod strength;
 pub mod wrong;

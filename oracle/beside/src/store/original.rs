@@ -75,6 +75,10 @@ fn tickets(frames: Vec<ParkedFrame>) -> Answer {
 }
 
 impl Original {
+    pub fn is_empty(&self) -> bool {
+        self.quarantine.is_empty()
+    }
+
     fn push(&mut self, f: &Frame) -> Answer {
         if f.claim > f.expected && f.claim - f.expected > 16 {
             return Answer::Refused(1);
