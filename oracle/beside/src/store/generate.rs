@@ -316,8 +316,20 @@ impl Maker {
         };
         let preds = predecessors(&f, head);
         let hashes: Vec<Hash> = preds.iter().map(|_| *self.r.pick(&self.contents)).collect();
-        let mut listed = preds.clone();
-        let mut contents = hashes.clone();
+        self.guard_for(&f, head, &preds, &hashes);
+        self.between(&f, head);
+        if self.r.once_in(6) {
+            self.make(Call::HasGuard(f.from));
+        }
+        let known = if self.r.once_in(5) { self.known(&f) } else { gap(&f) };
+        let content = if self.r.once_in(8) { None } else { Some(self.content(&preds, &hashes)) };
+        self.make(Call::Poll { sender: f.from, head, known, content });
+    }
+
+    /// A guard that matches the frame at this head with this content, or nearly.
+    fn guard_for(&mut self, f: &Frame, head: u64, preds: &[u64], hashes: &[Hash]) {
+        let mut listed = preds.to_vec();
+        let mut contents = hashes.to_vec();
         if contents.is_empty() {
             contents.push(self.contents[0]);
         }
@@ -341,27 +353,25 @@ impl Maker {
             boundary = None;
         }
         self.make(Call::Guard(GuardCall { hash: f.hash, boundary, predecessors: listed, content: contents.concat() }));
+    }
+
+    /// What may happen between a guard and the poll that it should meet.
+    fn between(&mut self, f: &Frame, head: u64) {
         match self.r.below(14) {
             0 => self.guard_again(f.hash),
-            1 => self.evict_and_push_again(&f),
-            2 => self.enter_and_revive(&f),
+            1 => self.evict_and_push_again(f),
+            2 => self.enter_and_revive(f),
             3 => self.make(Call::Enter {
                 hash: near(7),
                 consumed: Consumed { kind: 1, block: 100, block_hash: [1; 32], taker: [0; 32] },
             }),
-            4 => self.poll_shorter_twin_first(&f),
-            5 => self.rescue_and_push_again(&f, head),
-            6 => self.finish_and_push_again(&f),
-            7 => self.fail_to_enter(&f),
-            8 => self.rescue_twin_of_another_sender(&f),
+            4 => self.poll_shorter_twin_first(f),
+            5 => self.rescue_and_push_again(f, head),
+            6 => self.finish_and_push_again(f),
+            7 => self.fail_to_enter(f),
+            8 => self.rescue_twin_of_another_sender(f),
             _ => {}
         }
-        if self.r.once_in(6) {
-            self.make(Call::HasGuard(f.from));
-        }
-        let known = if self.r.once_in(5) { self.known(&f) } else { gap(&f) };
-        let content = if self.r.once_in(8) { None } else { Some(self.content(&preds, &hashes)) };
-        self.make(Call::Poll { sender: f.from, head, known, content });
     }
 
     /// Another guard of the same hash replaces the first.

@@ -12,6 +12,22 @@ pub struct Model {
     wrong: Option<Wrong>,
 }
 
+/// The inputs of a poll, and the guards as they stood when it began.
+struct Poll<'a> {
+    head: u64,
+    known: &'a [u64],
+    content: Option<&'a Content>,
+    start: Vec<Guard>,
+}
+
+/// Ticket, code, count, nonces and zeros.
+fn row(f: &Frame, code: u64, nonces: &[u64]) -> Row {
+    let mut row = [0; 19];
+    (row[0], row[1], row[2]) = (f.ticket, code, nonces.len() as u64);
+    row[3..3 + nonces.len()].copy_from_slice(nonces);
+    row
+}
+
 impl Model {
     pub fn with(wrong: Wrong) -> Self {
         Model { wrong: Some(wrong), ..Model::default() }
@@ -142,11 +158,11 @@ impl Model {
             }
             return Answer::Refused(number);
         }
-        let start = self.guards.clone();
+        let poll = Poll { head, known, content, start: self.guards.clone() };
         let mut rows = Vec::new();
         let mut kept = Vec::new();
         for mut entry in std::mem::take(&mut self.entries) {
-            if entry.frame.from != sender || self.poll_entry(&mut entry, head, known, content, &start, &mut rows) {
+            if entry.frame.from != sender || self.poll_entry(&mut entry, &poll, &mut rows) {
                 kept.push(entry);
             }
         }
@@ -155,73 +171,68 @@ impl Model {
     }
 
     /// Rules 1 to 7 for one entry of the sender; whether it stays.
-    fn poll_entry(
-        &mut self,
-        entry: &mut Entry,
-        head: u64,
-        known: &[u64],
-        content: Option<&Content>,
-        start: &[Guard],
-        rows: &mut Vec<Row>,
-    ) -> bool {
+    fn poll_entry(&mut self, entry: &mut Entry, poll: &Poll, rows: &mut Vec<Row>) -> bool {
         let f = entry.frame.clone();
-        let mut say = |code: u64, nonces: &[u64]| {
-            let mut row = [0; 19];
-            (row[0], row[1], row[2]) = (f.ticket, code, nonces.len() as u64);
-            row[3..3 + nonces.len()].copy_from_slice(nonces);
-            rows.push(row);
-        };
         // 1
         if entry.state != State::Tracked && !self.plants(Wrong::TentativeIsPolled) {
             return true;
         }
-        let consumed = self.consumed(&f, head);
-        let unknown = self.unknown(&f, head, known);
-        let predecessors = self.predecessors(&f, head);
+        let unknown = self.unknown(&f, poll.head, poll.known);
+        let predecessors = self.predecessors(&f, poll.head);
         // 2
         if self.degraded(&f) && !(self.plants(Wrong::DegradedIsRescued) && unknown.is_empty()) {
-            if consumed {
-                say(2, &[]);
-                if self.plants(Wrong::HeldWhenConsumed) {
-                    entry.held = Some(head);
-                }
-                return !self.plants(Wrong::ConsumedLeaves);
-            }
-            let reported = match self.wrong {
-                Some(Wrong::HeldOncePerAdvance) => entry.held.is_none_or(|held| held < head),
-                Some(Wrong::HeldEachPoll) => true,
-                _ => entry.held != Some(head),
-            };
-            if reported {
-                entry.held = Some(head);
-                say(3, if self.plants(Wrong::HeldListsPredecessors) { &predecessors } else { &unknown });
-            }
-            return true;
+            return self.poll_degraded(entry, poll, rows);
         }
         // 3
-        if consumed {
-            say(2, &[]);
+        if self.consumed(&f, poll.head) {
+            rows.push(row(&f, 2, &[]));
             return !self.plants(Wrong::ConsumedLeaves);
         }
         // 4 is in `gap`, `predecessors` and `unknown`
-        let guards = if self.plants(Wrong::GuardsAsAtStart) { start } else { &self.guards };
-        let guarded = Self::guard_of(guards, f.hash).is_some_and(|g| self.guard_matches(g, &f, head, content));
+        let guards = if self.plants(Wrong::GuardsAsAtStart) { &poll.start } else { &self.guards };
+        let guard = Self::guard_of(guards, f.hash);
+        let guarded = guard.is_some_and(|g| self.guard_matches(g, &f, poll.head, poll.content));
         // 5
         if !(unknown.is_empty() || self.plants(Wrong::GuardBeforeUnknown) && guarded) {
-            say(3, &unknown);
+            rows.push(row(&f, 3, &unknown));
             return true;
         }
         // 6
         if guarded {
-            say(3, if self.plants(Wrong::GuardRowEmpty) { &[] } else { &predecessors });
+            rows.push(row(&f, 3, if self.plants(Wrong::GuardRowEmpty) { &[] } else { &predecessors }));
             return true;
         }
         // 7
-        say(1, &predecessors);
+        rows.push(row(&f, 1, &predecessors));
         if !self.plants(Wrong::GuardStaysAtRescue) {
             self.drop_guard(f.hash);
         }
         false
+    }
+
+    /// Rule 2.
+    fn poll_degraded(&self, entry: &mut Entry, poll: &Poll, rows: &mut Vec<Row>) -> bool {
+        let (f, head) = (entry.frame.clone(), poll.head);
+        if self.consumed(&f, head) {
+            rows.push(row(&f, 2, &[]));
+            if self.plants(Wrong::HeldWhenConsumed) {
+                entry.held = Some(head);
+            }
+            return !self.plants(Wrong::ConsumedLeaves);
+        }
+        let reported = match self.wrong {
+            Some(Wrong::HeldOncePerAdvance) => entry.held.is_none_or(|held| held < head),
+            Some(Wrong::HeldEachPoll) => true,
+            _ => entry.held != Some(head),
+        };
+        if reported {
+            entry.held = Some(head);
+            rows.push(match self.wrong {
+                Some(Wrong::HeldListsPredecessors) => row(&f, 3, &self.predecessors(&f, head)),
+                _ => row(&f, 3, &self.unknown(&f, head, poll.known)),
+            });
+        }
+        true
     }
 
     // ---- the other calls that change the store
