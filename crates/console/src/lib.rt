@@ -1,60 +1,133 @@
-// What the programs write to standard output: words, numbers, hex digits, and the line of a fold.
+// What the programs write: words, numbers, hex digits and the line of a fold are put into a buffer, which goes to standard output
+// when it is full and at the end. What is written is no part of the logic, so the contracts say what waits in the buffer.
+ghost use mathlib.Core.Path.{_≡_};
+ghost use mathlib.Core.List.{[], _∷_, _++_};
+ghost use Prim.Native.Nat.{_+_, _≤_};
+ghost use lib.ListN.{length, take};
+ghost use Rattle.console.specs.Lines.{counted, refusalLine, totalsLine, foldLine};
+ghost use Rattle.console.specs.Waiting.{count, waits, behind, allBehind, decimal, pairs};
 use libc::STDOUT_FILENO;
 
-pub fn text(t: &[u8]) {
+// How many bytes wait at most.
+const ROOM: usize = 4096;
+
+// The bytes that wait to be written, and behind them, as u16, how many they are. A buffer of zeros is empty.
+pub const SIZE: usize = ROOM + 2;
+
+pub type Output = [u8; SIZE];
+
+// How many bytes wait.
+fn waiting(out: &Output) -> usize
+    ensures { λ r. ⌜ (r ≡ count (now (out .entry))) × (r ≡ length (waits (now (out .entry)))) × (r ≤ 4096) ⌝ }
+{
+    let n = wire::number(out, ROOM, 2) as usize;
+    if ROOM < n {
+        return ROOM;
+    }
+    n
+}
+
+// Puts bytes at a place behind which none wait any more.
+fn put(out: &mut Output, at: usize, t: &[u8])
+    requires { ⌜ at + length (now t) ≤ 4096 ⌝ }
+    ensures { λ _. ⌜ waits (now (out .exit)) ≡ take at (now (out .entry)) ++ now (t .entry) ⌝ }
+{
+    wire::put_bytes(out, at, t);
+    wire::put_number(out, ROOM, 2, (at + t.len()) as u64);
+}
+
+// Writes what waits.
+pub fn flush(out: &mut Output)
+    ensures { λ _. ⌜ waits (now (out .exit)) ≡ [] ⌝ }
+{
+    let n = waiting(out);
+    let all = &out[..];
+    io::write_all(STDOUT_FILENO, &all[0..n]);
+    put(out, 0, b"");
+}
+
+// Puts a text behind what waits. What waits is written first where there is no room for it.
+pub fn text(out: &mut Output, t: &[u8])
+    ensures { λ _. ⌜ waits (now (out .exit)) ≡ behind (waits (now (out .entry))) (now (t .entry)) ⌝ }
+{
+    let at = waiting(out);
+    if t.len() <= ROOM - at {
+        put(out, at, t);
+        return;
+    }
+    flush(out);
+    if t.len() <= ROOM {
+        put(out, 0, t);
+        return;
+    }
     io::write_all(STDOUT_FILENO, t);
 }
 
-pub fn number(n: u64) {
-    io::print_decimal(STDOUT_FILENO, n);
+// Puts a number's decimal digits.
+pub fn number(out: &mut Output, n: u64)
+    ensures { λ _. ⌜ waits (now (out .exit)) ≡ behind (waits (now (out .entry))) (decimal n) ⌝ }
+{
+    let mut digits = [0u8; 20];
+    let k = io::decimal(n, &mut digits);
+    text(out, &digits[..k]);
 }
 
-// A number with a space before it.
-pub fn next(n: u64) {
-    text(b" ");
-    number(n);
+// Puts a number with a space before it.
+pub fn next(out: &mut Output, n: u64)
+    ensures { λ _. ⌜ waits (now (out .exit)) ≡ behind (behind (waits (now (out .entry))) (32 ∷ [])) (decimal n) ⌝ }
+{
+    text(out, b" ");
+    number(out, n);
 }
 
-fn wide(b: u8) -> u64 {
-    b as u64
-}
-
-// Bytes as lowercase hex digits.
-pub fn hex(bytes: &[u8]) {
+// Puts bytes as lowercase hex digits.
+pub fn hex(out: &mut Output, bytes: &[u8])
+    ensures { λ _. ⌜ waits (now (out .exit)) ≡ allBehind (waits (now (out .entry))) (pairs (now (bytes .entry))) ⌝ }
+{
     let mut i = 0;
     while i < bytes.len() {
-        io::print_hex(STDOUT_FILENO, wide(bytes[i]), 2);
+        let pair = wire::hex_pair(bytes[i]);
+        text(out, &pair);
         i += 1;
     }
 }
 
-fn refusal_line(code: u64) {
-    text(b"refused");
-    next(code % 256);
-    text(b" at");
-    next(code / 256);
-    text(b"\n");
+// Puts a word, a space and a number.
+pub fn count(out: &mut Output, word: &[u8], n: u64)
+    ensures { λ _. ⌜ waits (now (out .exit)) ≡ allBehind (waits (now (out .entry))) (counted (now (word .entry)) n) ⌝ }
+{
+    text(out, word);
+    next(out, n);
 }
 
-fn totals_line(totals: &[u8; 40]) {
-    text(b"pending");
-    next(wire::number(totals, 0, 8));
-    text(b" skipped");
-    next(wire::number(totals, 8, 8));
-    text(b" migrated");
-    next(wire::number(totals, 16, 8));
-    text(b" degraded");
-    next(wire::number(totals, 24, 8));
-    text(b" end");
-    next(wire::number(totals, 32, 8));
-    text(b"\n");
+// The line of a refusal: its number, and the offset at which the journal is refused.
+fn refusal_line(out: &mut Output, code: u64)
+    ensures { λ _. ⌜ waits (now (out .exit)) ≡ allBehind (waits (now (out .entry))) (refusalLine code) ⌝ }
+{
+    count(out, b"refused", code % 256);
+    count(out, b" at", code / 256);
+    text(out, b"\n");
+}
+
+// The line of a fold that answered 0, with its five totals.
+fn totals_line(out: &mut Output, totals: &[u8; 40])
+    ensures { λ _. ⌜ waits (now (out .exit)) ≡ allBehind (waits (now (out .entry))) (totalsLine (now (totals .entry))) ⌝ }
+{
+    count(out, b"pending", wire::number(totals, 0, 8));
+    count(out, b" skipped", wire::number(totals, 8, 8));
+    count(out, b" migrated", wire::number(totals, 16, 8));
+    count(out, b" degraded", wire::number(totals, 24, 8));
+    count(out, b" end", wire::number(totals, 32, 8));
+    text(out, b"\n");
 }
 
 // Document 01's line of a fold, from what the exported function returned and wrote.
-pub fn fold_line(code: u64, totals: &[u8; 40]) {
+pub fn fold_line(out: &mut Output, code: u64, totals: &[u8; 40])
+    ensures { λ _. ⌜ waits (now (out .exit)) ≡ allBehind (waits (now (out .entry))) (foldLine code (now (totals .entry))) ⌝ }
+{
     if code == 0 {
-        totals_line(totals);
+        totals_line(out, totals);
     } else {
-        refusal_line(code);
+        refusal_line(out, code);
     }
 }

@@ -19,6 +19,7 @@ pub(crate) enum Next {
     Bad,
 }
 
+// The rest of the head of a journal: the output lent to its fold.
 fn journal_head(len: usize) -> Next {
     let mut bytes = [0u8; 2];
     if io::read_full(STDIN_FILENO, &mut bytes) < 2 {
@@ -37,6 +38,7 @@ fn journal_head(len: usize) -> Next {
     Next::Item(head)
 }
 
+// The head of a record.
 fn park_head(len: usize) -> Next {
     if LONGEST < len {
         return Next::Bad;
@@ -50,6 +52,7 @@ fn park_head(len: usize) -> Next {
     Next::Item(head)
 }
 
+// The head of the next item of standard input.
 pub(crate) fn next_head() -> Next {
     let mut bytes = [0u8; 5];
     let got = io::read_full(STDIN_FILENO, &mut bytes);

@@ -1,11 +1,13 @@
 // The calls that may change the store: inputs read, call made, answer printed.
 use super::print;
 use super::script;
+use console::Output;
 use gap_quarantine::NonceConsumed;
 use gap_quarantine::ParkedFrame;
 use gap_quarantine::Quarantine;
 
-pub(crate) fn push(q: Quarantine, s: &[u8]) -> Quarantine {
+// A frame is let in.
+pub(crate) fn push(out: &mut Output, q: Quarantine, s: &[u8]) -> Quarantine {
     let hash = script::hash_at(s, 2);
     let from = script::address_at(s, 34);
     let frame = ParkedFrame {
@@ -19,12 +21,13 @@ pub(crate) fn push(q: Quarantine, s: &[u8]) -> Quarantine {
     };
     let r = q.push(frame);
     let answer = r.answer;
-    print::answer(answer);
+    print::answer(out, answer);
     let store = r.store;
     store
 }
 
-pub(crate) fn poll(q: Quarantine, s: &[u8]) -> Quarantine {
+// A poll, with content or without.
+pub(crate) fn poll(out: &mut Output, q: Quarantine, s: &[u8]) -> Quarantine {
     let mut rows = [0u64; 1216];
     let sender = script::address_at(s, 2);
     let head = script::number_at(s, 22);
@@ -35,8 +38,8 @@ pub(crate) fn poll(q: Quarantine, s: &[u8]) -> Quarantine {
     if script::byte_at(s, at) == 0 {
         let r = q.poll(sender, head, &known_list[0..known_count], &mut rows);
         let answer = r.answer;
-        let n = print::answer(answer);
-        print::rows(&rows, 19, n);
+        let n = print::answer(out, answer);
+        print::rows(out, &rows, 19, n);
         let store = r.store;
         return store;
     }
@@ -54,13 +57,14 @@ pub(crate) fn poll(q: Quarantine, s: &[u8]) -> Quarantine {
         &mut rows,
     );
     let answer = r.answer;
-    let n = print::answer(answer);
-    print::rows(&rows, 19, n);
+    let n = print::answer(out, answer);
+    print::rows(out, &rows, 19, n);
     let store = r.store;
     store
 }
 
-pub(crate) fn guard(q: Quarantine, s: &[u8]) -> Quarantine {
+// A guard of either kind.
+pub(crate) fn guard(out: &mut Output, q: Quarantine, s: &[u8]) -> Quarantine {
     let hash = script::hash_at(s, 3);
     let preds = script::numbers_at(s, 35);
     let pred_count = preds.count;
@@ -76,18 +80,19 @@ pub(crate) fn guard(q: Quarantine, s: &[u8]) -> Quarantine {
             boundary,
         );
         let answer = r.answer;
-        print::answer(answer);
+        print::answer(out, answer);
         let store = r.store;
         return store;
     }
     let r = q.record_unhydratable_guard_with_content(hash, &pred_list[0..pred_count], contents);
     let answer = r.answer;
-    print::answer(answer);
+    print::answer(out, answer);
     let store = r.store;
     store
 }
 
-pub(crate) fn enter(q: Quarantine, s: &[u8]) -> Quarantine {
+// A frame becomes tentative.
+pub(crate) fn enter(out: &mut Output, q: Quarantine, s: &[u8]) -> Quarantine {
     let hash = script::hash_at(s, 2);
     let block = script::number_at(s, 35);
     let block_hash = script::hash_at(s, 43);
@@ -99,41 +104,44 @@ pub(crate) fn enter(q: Quarantine, s: &[u8]) -> Quarantine {
     };
     let r = q.enter_tentative(hash, consumed, block_hash, taker);
     let answer = r.answer;
-    print::answer(answer);
+    print::answer(out, answer);
     let store = r.store;
     store
 }
 
-pub(crate) fn reorganise(q: Quarantine, s: &[u8]) -> Quarantine {
+// A reorganisation of a block.
+pub(crate) fn reorganise(out: &mut Output, q: Quarantine, s: &[u8]) -> Quarantine {
     let mut tickets = [0u64; 64];
     let block = script::number_at(s, 2);
     let has_hash = script::byte_at(s, 10) == 1;
     let hash = script::hash_at(s, 11);
     let r = q.check_reorg(block, has_hash, hash, &mut tickets);
     let answer = r.answer;
-    let n = print::answer(answer);
-    print::numbers(&tickets, n);
+    let n = print::answer(out, answer);
+    print::numbers(out, &tickets, n);
     let store = r.store;
     store
 }
 
-pub(crate) fn finalise(q: Quarantine, s: &[u8]) -> Quarantine {
+// The finality of a block.
+pub(crate) fn finalise(out: &mut Output, q: Quarantine, s: &[u8]) -> Quarantine {
     let mut numbers = [0u64; 192];
     let mut bytes = [0u8; 4096];
     let r = q.check_finalized(script::number_at(s, 2), &mut numbers, &mut bytes);
     let answer = r.answer;
-    let n = print::answer(answer);
-    print::rows_with_hashes(&numbers, 3, &bytes, 2, n);
+    let n = print::answer(out, answer);
+    print::rows_with_hashes(out, &numbers, 3, &bytes, 2, n);
     let store = r.store;
     store
 }
 
-pub(crate) fn evict(q: Quarantine, s: &[u8]) -> Quarantine {
+// The eviction of a sender.
+pub(crate) fn evict(out: &mut Output, q: Quarantine, s: &[u8]) -> Quarantine {
     let mut tickets = [0u64; 64];
     let r = q.evict_sender(script::address_at(s, 2), &mut tickets);
     let answer = r.answer;
-    let n = print::answer(answer);
-    print::numbers(&tickets, n);
+    let n = print::answer(out, answer);
+    print::numbers(out, &tickets, n);
     let store = r.store;
     store
 }

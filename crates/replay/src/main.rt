@@ -1,4 +1,5 @@
 // Runs scripts of store calls from standard input, and prints what each call answers.
+use console::Output;
 use gap_quarantine::Quarantine;
 use libc::STDIN_FILENO;
 
@@ -12,44 +13,50 @@ mod script; // script.rt: a script's bytes
 const INPUT: usize = 1048576;
 
 // One call, which is whole; the store after it.
-fn run_call(q: Quarantine, s: &[u8]) -> Quarantine {
+fn run_call(out: &mut Output, q: Quarantine, s: &[u8]) -> Quarantine {
     match script::byte_at(s, 1) {
-        b'P' => calls::push(q, s),
-        b'Q' => calls::poll(q, s),
-        b'G' => calls::guard(q, s),
-        b'E' => calls::enter(q, s),
-        b'R' => calls::reorganise(q, s),
-        b'F' => calls::finalise(q, s),
-        b'V' => calls::evict(q, s),
+        b'P' => calls::push(out, q, s),
+        b'Q' => calls::poll(out, q, s),
+        b'G' => calls::guard(out, q, s),
+        b'E' => calls::enter(out, q, s),
+        b'R' => calls::reorganise(out, q, s),
+        b'F' => calls::finalise(out, q, s),
+        b'V' => calls::evict(out, q, s),
         _ => {
-            reads::read(q, s);
+            reads::read(out, q, s);
             q
         }
     }
 }
 
+// A call's mark, between spaces.
+fn mark(out: &mut Output, s: &[u8]) {
+    if 2 <= s.len() {
+        print::text(out, b" ");
+        print::text(out, &s[0..2]);
+        print::text(out, b" ");
+    }
+}
+
 // A script from an empty store, a line a call.
-fn run_script(s: &[u8]) {
+fn run_script(out: &mut Output, s: &[u8]) {
     let mut q = Quarantine::new();
     let mut at = 0;
     let mut place: u64 = 0;
     while at < s.len() {
-        print::number(place);
+        print::number(out, place);
         let size = script::call_size(&s[at..]);
         if size < 2 {
-            print::text(b" bad\n");
+            print::text(out, b" bad\n");
             return;
         }
         if s.len() - at < size {
             return;
         }
         let end = at + size;
-        let mark = at + 2;
-        print::text(b" ");
-        print::text(&s[at..mark]);
-        print::text(b" ");
-        q = run_call(q, &s[at..end]);
-        print::text(b"\n");
+        mark(out, &s[at..end]);
+        q = run_call(out, q, &s[at..end]);
+        print::text(out, b"\n");
         at = end;
         place += 1;
     }
@@ -83,20 +90,21 @@ fn next_script(left: usize, script: &mut [u8]) -> Next {
 }
 
 // What is printed where no script follows.
-fn end(next: Next) {
+fn end(out: &mut Output, next: Next) {
     if let Next::Bad = next {
-        print::text(b"bad input\n");
+        print::text(out, b"bad input\n");
     }
 }
 
-fn main() {
+// The scripts of standard input, one after another.
+fn run_scripts(out: &mut Output) {
     let mut script = [0u8; 65536];
     let mut left = INPUT;
     let mut place: usize = 0;
     while place <= INPUT {
         let next = next_script(left, &mut script);
         let Next::Script(len) = next else {
-            end(next);
+            end(out, next);
             return;
         };
         if 65536 < len {
@@ -106,10 +114,17 @@ fn main() {
         if left < used {
             return;
         }
-        print::count(b"==", place);
-        print::text(b"\n");
-        run_script(&script[0..len]);
+        print::count(out, b"==", place);
+        print::text(out, b"\n");
+        run_script(out, &script[0..len]);
         left -= used;
         place += 1;
     }
+}
+
+// Runs on an empty buffer, and writes what waits at the end.
+fn main() {
+    let mut out = [0u8; console::SIZE];
+    run_scripts(&mut out);
+    console::flush(&mut out);
 }

@@ -1,4 +1,5 @@
 // Answers as text.
+use console::Output;
 pub(crate) use console::next;
 pub(crate) use console::number;
 pub(crate) use console::text;
@@ -8,101 +9,101 @@ use gap_quarantine::NonceConsumed;
 use refusal::Refusal;
 
 // A word and how many are listed.
-pub(crate) fn count(word: &[u8], n: usize) {
-    text(word);
-    next(n as u64);
+pub(crate) fn count(out: &mut Output, word: &[u8], n: usize) {
+    console::count(out, word, n as u64);
 }
 
 // The first so many numbers, each with a space before it.
-pub(crate) fn numbers(list: &[u64], count: usize) {
+pub(crate) fn numbers(out: &mut Output, list: &[u64], count: usize) {
     let mut i = 0;
     while i < list.len() {
         if count <= i {
             return;
         }
-        next(list[i]);
+        next(out, list[i]);
         i += 1;
     }
 }
 
 // Bytes as lowercase hex digits, with a space before them.
-pub(crate) fn hex(bytes: &[u8]) {
-    text(b" ");
-    console::hex(bytes);
+pub(crate) fn hex(out: &mut Output, bytes: &[u8]) {
+    text(out, b" ");
+    console::hex(out, bytes);
 }
 
-pub(crate) fn refused(x: Refusal) {
-    text(b"refused");
-    next(refusal::number(x));
+// A refusal by its number.
+pub(crate) fn refused(out: &mut Output, x: Refusal) {
+    console::count(out, b"refused", refusal::number(x));
 }
 
-pub(crate) fn truth(b: bool) {
+// A truth value as a word.
+pub(crate) fn truth(out: &mut Output, b: bool) {
     if b {
-        text(b"true");
+        text(out, b"true");
     } else {
-        text(b"false");
+        text(out, b"false");
     }
 }
 
 // The kind and the block of a consumption.
-fn consumed(c: NonceConsumed) {
+fn consumed(out: &mut Output, c: NonceConsumed) {
     match c {
         NonceConsumed::MinedAt(b) => {
-            text(b" 1");
-            next(b);
+            text(out, b" 1");
+            next(out, b);
         }
         NonceConsumed::SlotTakenAt(b) => {
-            text(b" 2");
-            next(b);
+            text(out, b" 2");
+            next(out, b);
         }
         NonceConsumed::SlotTakenBy(b) => {
-            text(b" 3");
-            next(b);
+            text(out, b" 3");
+            next(out, b);
         }
     }
 }
 
 // A state: tracked, or tentative with its kind, block, block hash and taker.
-pub(crate) fn state(s: FrameState, block_hash: [u8; 32], taker: [u8; 32]) {
+pub(crate) fn state(out: &mut Output, s: FrameState, block_hash: [u8; 32], taker: [u8; 32]) {
     let FrameState::Tentative(c) = s else {
-        text(b"tracked");
+        text(out, b"tracked");
         return;
     };
-    text(b"tentative");
-    consumed(c);
-    hex(&block_hash);
-    hex(&taker);
+    text(out, b"tentative");
+    consumed(out, c);
+    hex(out, &block_hash);
+    hex(out, &taker);
 }
 
 // What a call answers, before its list, and how many it lists.
-pub(crate) fn answer(a: Answer) -> usize {
+pub(crate) fn answer(out: &mut Output, a: Answer) -> usize {
     match a {
         Answer::Total(n) => {
-            count(b"total", n);
+            count(out, b"total", n);
             0
         }
         Answer::Rows(n) => {
-            count(b"rows", n);
+            count(out, b"rows", n);
             n
         }
         Answer::Recorded => {
-            text(b"done");
+            text(out, b"done");
             0
         }
         Answer::Entered(b) => {
-            truth(b);
+            truth(out, b);
             0
         }
         Answer::Frames(n) => {
-            count(b"tickets", n);
+            count(out, b"tickets", n);
             n
         }
         Answer::Dead(n) => {
-            count(b"dead", n);
+            count(out, b"dead", n);
             n
         }
         Answer::Refused(x) => {
-            refused(x);
+            refused(out, x);
             0
         }
     }
@@ -111,7 +112,7 @@ pub(crate) fn answer(a: Answer) -> usize {
 // ---- lists
 
 // Rows of so many numbers, each behind a bar.
-pub(crate) fn rows(list: &[u64], width: usize, rows: usize) {
+pub(crate) fn rows(out: &mut Output, list: &[u64], width: usize, rows: usize) {
     let mut at = 0;
     let mut i = 0;
     while i < rows {
@@ -119,8 +120,8 @@ pub(crate) fn rows(list: &[u64], width: usize, rows: usize) {
             return;
         }
         let end = at + width;
-        text(b" |");
-        numbers(&list[at..end], width);
+        text(out, b" |");
+        numbers(out, &list[at..end], width);
         at = end;
         i += 1;
     }
@@ -128,6 +129,7 @@ pub(crate) fn rows(list: &[u64], width: usize, rows: usize) {
 
 // Rows of so many numbers and so many hashes of 32 bytes, each row behind a bar.
 pub(crate) fn rows_with_hashes(
+    out: &mut Output,
     list: &[u64],
     width: usize,
     bytes: &[u8],
@@ -142,37 +144,33 @@ pub(crate) fn rows_with_hashes(
             return;
         }
         let end = at + width;
-        text(b" |");
-        numbers(&list[at..end], width);
+        text(out, b" |");
+        numbers(out, &list[at..end], width);
         at = end;
-        from = self::hashes(bytes, from, hashes);
+        from = parts(out, bytes, from, 32, hashes);
         i += 1;
     }
 }
 
-// So many hashes from an offset on; the offset behind them.
-pub(crate) fn hashes(bytes: &[u8], from: usize, count: usize) -> usize {
+// So many parts of one width, from an offset on; the offset behind them.
+pub(crate) fn parts(
+    out: &mut Output,
+    bytes: &[u8],
+    from: usize,
+    width: usize,
+    count: usize,
+) -> usize {
     let mut at = from;
     let mut i = 0;
     while i < count {
-        at = part(bytes, at, 32);
+        at = part(out, bytes, at, width);
         i += 1;
     }
     at
 }
 
-// So many parts of one width.
-pub(crate) fn parts(bytes: &[u8], width: usize, count: usize) {
-    let mut at = 0;
-    let mut i = 0;
-    while i < count {
-        at = part(bytes, at, width);
-        i += 1;
-    }
-}
-
 // The bytes of one part, if it is there; the offset behind it.
-fn part(bytes: &[u8], at: usize, width: usize) -> usize {
+fn part(out: &mut Output, bytes: &[u8], at: usize, width: usize) -> usize {
     if bytes.len() < at {
         return at;
     }
@@ -180,6 +178,6 @@ fn part(bytes: &[u8], at: usize, width: usize) -> usize {
         return at;
     }
     let end = at + width;
-    hex(&bytes[at..end]);
+    hex(out, &bytes[at..end]);
     end
 }

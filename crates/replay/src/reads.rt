@@ -2,82 +2,89 @@
 use super::dump;
 use super::print;
 use super::script;
+use console::Output;
 use gap_quarantine::Boundary;
 use gap_quarantine::Listed;
 use gap_quarantine::Quarantine;
 
-fn state(q: Quarantine, s: &[u8]) {
+// The state of a frame.
+fn state(out: &mut Output, q: Quarantine, s: &[u8]) {
     let held = q.state(script::hash_at(s, 2));
     if !held.found {
-        print::text(b"none");
+        print::text(out, b"none");
         return;
     }
     let state = held.state;
     let block_hash = held.block_hash;
     let taker = held.taker;
-    print::state(state, block_hash, taker);
+    print::state(out, state, block_hash, taker);
 }
 
-fn boundary(q: Quarantine, s: &[u8]) {
+// The expected boundary of a frame.
+fn boundary(out: &mut Output, q: Quarantine, s: &[u8]) {
     let found = q.expected_boundary(script::hash_at(s, 2));
     let Boundary::Expected(n) = found else {
-        print::text(b"none");
+        print::text(out, b"none");
         return;
     };
-    print::text(b"some");
-    print::next(n);
+    print::text(out, b"some");
+    print::next(out, n);
 }
 
 // How many are listed, behind a word; 0 if the call was refused.
-fn listed(word: &[u8], l: Listed) -> usize {
+fn listed(out: &mut Output, word: &[u8], l: Listed) -> usize {
     match l {
         Listed::Count(n) => {
-            print::count(word, n);
+            print::count(out, word, n);
             n
         }
         Listed::Refused(x) => {
-            print::refused(x);
+            print::refused(out, x);
             0
         }
     }
 }
 
-fn blocks(q: Quarantine) {
+// The blocks in which tentative frames stand.
+fn blocks(out: &mut Output, q: Quarantine) {
     let mut numbers = [0u64; 64];
     let mut bytes = [0u8; 2048];
-    let n = listed(b"blocks", q.tentative_blocks(&mut numbers, &mut bytes));
-    print::rows_with_hashes(&numbers, 1, &bytes, 1, n);
+    let n = listed(out, b"blocks", q.tentative_blocks(&mut numbers, &mut bytes));
+    print::rows_with_hashes(out, &numbers, 1, &bytes, 1, n);
 }
 
-fn senders(q: Quarantine) {
+// The senders of all frames.
+fn senders(out: &mut Output, q: Quarantine) {
     let mut bytes = [0u8; 1280];
-    let n = listed(b"senders", q.senders(&mut bytes));
-    print::parts(&bytes, 20, n);
+    let n = listed(out, b"senders", q.senders(&mut bytes));
+    print::parts(out, &bytes, 0, 20, n);
 }
 
-fn pool_gap(q: Quarantine, s: &[u8]) {
+// The gap nonces that the pool has.
+fn pool_gap(out: &mut Output, q: Quarantine, s: &[u8]) {
     let mut numbers = [0u64; 1024];
     let sender = script::address_at(s, 2);
     let head = script::number_at(s, 22);
     let count = script::number_at(s, 30);
     let n = listed(
+        out,
         b"numbers",
         q.pool_known_gap(sender, head, count, &mut numbers),
     );
-    print::numbers(&numbers, n);
+    print::numbers(out, &numbers, n);
 }
 
 // Any call that returns no store.
-pub(crate) fn read(q: Quarantine, s: &[u8]) {
+pub(crate) fn read(out: &mut Output, q: Quarantine, s: &[u8]) {
     match script::byte_at(s, 1) {
-        b'S' => state(q, s),
-        b'B' => boundary(q, s),
-        b'T' => blocks(q),
-        b'L' => print::count(b"number", q.len()),
-        b'N' => senders(q),
-        b'C' => print::count(b"number", q.tentative_count()),
-        b'K' => pool_gap(q, s),
-        b'H' => print::truth(q.has_guard_for_sender(script::address_at(s, 2))),
-        _ => dump::store(q),
+        b'S' => state(out, q, s),
+        b'B' => boundary(out, q, s),
+        b'T' => blocks(out, q),
+        b'L' => print::count(out, b"number", q.len()),
+        b'N' => senders(out, q),
+        b'C' => print::count(out, b"number", q.tentative_count()),
+        b'K' => pool_gap(out, q, s),
+        b'H' => print::truth(out, q.has_guard_for_sender(script::address_at(s, 2))),
+        _ => dump::store(out, q),
     }
 }

@@ -3,6 +3,7 @@ ghost use mathlib.Core.Path.{_≡_};
 ghost use Prim.Native.Nat.{_<_, _≤_};
 ghost use lib.ListN.{length};
 
+// The byte at an offset.
 pub(crate) fn byte_at(s: &[u8], at: usize) -> u8 {
     if at < s.len() {
         return s[at];
@@ -22,6 +23,7 @@ pub(crate) fn count_at(s: &[u8], at: usize) -> usize
     low + 256 * high
 }
 
+// A u64, little-endian.
 pub(crate) fn number_at(s: &[u8], at: usize) -> u64 {
     if s.len() < 8 {
         return 0;
@@ -32,6 +34,7 @@ pub(crate) fn number_at(s: &[u8], at: usize) -> u64 {
     wire::number(s, at, 8)
 }
 
+// A hash of 32 bytes.
 pub(crate) fn hash_at(s: &[u8], at: usize) -> [u8; 32] {
     let mut hash = [0u8; 32];
     if s.len() < 32 {
@@ -43,6 +46,7 @@ pub(crate) fn hash_at(s: &[u8], at: usize) -> [u8; 32] {
     hash
 }
 
+// An address of 20 bytes.
 pub(crate) fn address_at(s: &[u8], at: usize) -> [u8; 20] {
     let mut address = [0u8; 20];
     if s.len() < 20 {
@@ -70,6 +74,7 @@ pub(crate) struct Numbers {
     pub(crate) list: [u64; 257],
 }
 
+// A list of numbers, led by its count.
 pub(crate) fn numbers_at(s: &[u8], at: usize) -> Numbers
     ensures { λ r. ⌜ (r .count ≤ 257) × (length (r .list) ≡ 257) ⌝ }
 {
@@ -156,6 +161,7 @@ fn after_content(s: &[u8], at: usize) -> usize {
     }
 }
 
+// The size of a guard call, by its kind.
 fn guard_size(s: &[u8]) -> usize {
     let lists = after_list(s, after_list(s, 35, 8), 1);
     match byte_at(s, 2) {
@@ -165,6 +171,7 @@ fn guard_size(s: &[u8]) -> usize {
     }
 }
 
+// The size of an enter call, by its kind.
 fn enter_size(s: &[u8]) -> usize {
     match byte_at(s, 34) {
         1 => after(s, 2, 73),

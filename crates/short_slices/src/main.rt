@@ -54,12 +54,15 @@ pub(crate) fn tentative(first_block: u64, second_block: u64) -> Quarantine {
     store
 }
 
+// Prints every line.
 fn main() {
-    changing::polls();
-    changing::evictions();
-    changing::reorganisations();
-    changing::finalities();
-    reads::blocks();
-    reads::senders();
-    reads::gaps();
+    let mut out = [0u8; console::SIZE];
+    changing::polls(&mut out);
+    changing::evictions(&mut out);
+    changing::reorganisations(&mut out);
+    changing::finalities(&mut out);
+    reads::blocks(&mut out);
+    reads::senders(&mut out);
+    reads::gaps(&mut out);
+    console::flush(&mut out);
 }

@@ -1,26 +1,33 @@
 use Prim.Native.Nat.{_-_, _≤_}
-use lib.ListN.{length}
+use mathlib.Core.Path.{_≡_, refl, sym, _∙_}
+use native.Mathlib.Omega.{arith}
+use Rattle.console.proofs.Putting.{hex-turn, hex-done}
+use lib.ListN.{length, drop}
+use Rattle.console.specs.Waiting.{waits, allBehind, pairs}
 use borrow.Author.Needs.{needs}
 use Rattle.console.proofs.hex.Statement.{statement}
 use Rattle.console.proofs.hex.Tie as tie
 
 abbrev Inv-loop : tie.InvT-loop
-Inv-loop bytes i₀ i = i ≤ length bytes
+Inv-loop out₀ bytes i₀ out i = (i ≤ length bytes) × (allBehind (waits out) (pairs (drop i bytes)) ≡ allBehind (waits out₀) (pairs bytes))
 
 abbrev μ-loop : tie.MeasureT-loop
-μ-loop bytes i₀ i = length bytes - i
+μ-loop out₀ bytes i₀ out i = length bytes - i
 
 loop-holds : tie.Need-loop-holds Inv-loop μ-loop
-loop-holds c = search needs
+loop-holds c = (omega arith, refl)
 
-shared-slice-read-wide : tie.Need-shared-slice-read-wide Inv-loop μ-loop
-shared-slice-read-wide c = search needs
+shared-slice-read-hex-pair : tie.Need-shared-slice-read-hex-pair Inv-loop μ-loop
+shared-slice-read-hex-pair c = search needs
 
-wide-requires : tie.Need-wide-requires Inv-loop μ-loop
-wide-requires c κs = search needs
+hex-pair-requires : tie.Need-hex-pair-requires Inv-loop μ-loop
+hex-pair-requires c κs = search needs
 
-print-hex-requires : tie.Need-print-hex-requires Inv-loop μ-loop
-print-hex-requires c κs = search needs
+slice-aggregate-text : tie.Need-slice-aggregate-text Inv-loop μ-loop
+slice-aggregate-text c = search needs
+
+text-requires : tie.Need-text-requires Inv-loop μ-loop
+text-requires c κs = search needs
 
 add-i : tie.Need-add-i Inv-loop μ-loop
 add-i c = search needs
@@ -29,10 +36,14 @@ loop-less : tie.Need-loop-less Inv-loop μ-loop
 loop-less c = search needs
 
 loop-again : tie.Need-loop-again Inv-loop μ-loop
-loop-again c = search needs
+loop-again c =
+    let l = (c .before .before .before .before .before .before) .loop in
+    (omega arith, hex-turn ((c .before .before .before .before .before .before .before .before) .args .bytes .now) (waits (l .out)) _ _ (l .i) (omega arith) ((c .before .before .before) .hex-pair .ensures) (c .text .ensures) ∙ l .inv .1)
 
 returns : tie.Need-returns Inv-loop μ-loop
-returns c = search needs
+returns c =
+    let l = (c .before) .loop in
+    sym (hex-done ((c .before .before .before) .args .bytes .now) (waits (l .out)) (l .i) (omega arith)) ∙ l .inv .1
 
 pub hex-spec : {M : Type 1} → statement M
 hex-spec =
@@ -41,9 +52,10 @@ hex-spec =
     Inv-loop
     μ-loop
     loop-holds
-    shared-slice-read-wide
-    wide-requires
-    print-hex-requires
+    shared-slice-read-hex-pair
+    hex-pair-requires
+    slice-aggregate-text
+    text-requires
     add-i
     loop-less
     loop-again

@@ -5,10 +5,10 @@ use Rattle.journals.proofs.print_pending.Statement.{statement}
 use Rattle.journals.proofs.print_pending.Tie as tie
 
 abbrev Inv-loop : tie.InvT-loop
-Inv-loop out count at₀ i₀ t6 at i = (at ≤ length out) × (i ≤ count)
+Inv-loop out₀ records count at₀ i₀ t7 out at i = (at ≤ length records) × (i ≤ count)
 
 abbrev μ-loop : tie.MeasureT-loop
-μ-loop out count at₀ i₀ t6 at i = count - i
+μ-loop out₀ records count at₀ i₀ t7 out at i = count - i
 
 loop-holds : tie.Need-loop-holds Inv-loop μ-loop
 loop-holds c = search needs

@@ -5,10 +5,10 @@ use Rattle.replay.proofs.run_script.Statement.{statement}
 use Rattle.replay.proofs.run_script.Tie as tie
 
 abbrev Inv-loop : tie.InvT-loop
-Inv-loop s q₀ at₀ place₀ t8 t9 t10 t11 q at place = (at ≤ length s) × (place ≤ at)
+Inv-loop out₀ s q₀ at₀ place₀ t8 t9 out q at place = (at ≤ length s) × (place ≤ at)
 
 abbrev μ-loop : tie.MeasureT-loop
-μ-loop s q₀ at₀ place₀ t8 t9 t10 t11 q at place = length s - at
+μ-loop out₀ s q₀ at₀ place₀ t8 t9 out q at place = length s - at
 
 new-requires : tie.Need-new-requires Inv-loop μ-loop
 new-requires c κs = search needs
@@ -49,32 +49,17 @@ returns-2 c = search needs
 add-end : tie.Need-add-end Inv-loop μ-loop
 add-end c = search needs
 
-add-mark : tie.Need-add-mark Inv-loop μ-loop
-add-mark c = search needs
+sub-mark : tie.Need-sub-mark Inv-loop μ-loop
+sub-mark c = search needs
 
-slice-aggregate-text-2 : tie.Need-slice-aggregate-text-2 Inv-loop μ-loop
-slice-aggregate-text-2 c = search needs
+part-mark-start : tie.Need-part-mark-start Inv-loop μ-loop
+part-mark-start c = search needs
 
-text-requires-2 : tie.Need-text-requires-2 Inv-loop μ-loop
-text-requires-2 c κs = search needs
+part-mark-end : tie.Need-part-mark-end Inv-loop μ-loop
+part-mark-end c = search needs
 
-sub-text : tie.Need-sub-text Inv-loop μ-loop
-sub-text c = search needs
-
-part-text-start : tie.Need-part-text-start Inv-loop μ-loop
-part-text-start c = search needs
-
-part-text-end : tie.Need-part-text-end Inv-loop μ-loop
-part-text-end c = search needs
-
-text-requires-3 : tie.Need-text-requires-3 Inv-loop μ-loop
-text-requires-3 c κs = search needs
-
-slice-aggregate-text-3 : tie.Need-slice-aggregate-text-3 Inv-loop μ-loop
-slice-aggregate-text-3 c = search needs
-
-text-requires-4 : tie.Need-text-requires-4 Inv-loop μ-loop
-text-requires-4 c κs = search needs
+mark-requires : tie.Need-mark-requires Inv-loop μ-loop
+mark-requires c κs = search needs
 
 sub-run-call : tie.Need-sub-run-call Inv-loop μ-loop
 sub-run-call c = search needs
@@ -88,11 +73,11 @@ part-run-call-end c = search needs
 run-call-requires : tie.Need-run-call-requires Inv-loop μ-loop
 run-call-requires c κs = search needs
 
-slice-aggregate-text-4 : tie.Need-slice-aggregate-text-4 Inv-loop μ-loop
-slice-aggregate-text-4 c = search needs
+slice-aggregate-text-2 : tie.Need-slice-aggregate-text-2 Inv-loop μ-loop
+slice-aggregate-text-2 c = search needs
 
-text-requires-5 : tie.Need-text-requires-5 Inv-loop μ-loop
-text-requires-5 c κs = search needs
+text-requires-2 : tie.Need-text-requires-2 Inv-loop μ-loop
+text-requires-2 c κs = search needs
 
 add-place : tie.Need-add-place Inv-loop μ-loop
 add-place c = search needs
@@ -125,21 +110,16 @@ run-script-spec =
     sub-if2
     returns-2
     add-end
-    add-mark
-    slice-aggregate-text-2
-    text-requires-2
-    sub-text
-    part-text-start
-    part-text-end
-    text-requires-3
-    slice-aggregate-text-3
-    text-requires-4
+    sub-mark
+    part-mark-start
+    part-mark-end
+    mark-requires
     sub-run-call
     part-run-call-start
     part-run-call-end
     run-call-requires
-    slice-aggregate-text-4
-    text-requires-5
+    slice-aggregate-text-2
+    text-requires-2
     add-place
     loop-less
     loop-again

@@ -5,10 +5,10 @@ use Rattle.replay.proofs.print.numbers.Statement.{statement}
 use Rattle.replay.proofs.print.numbers.Tie as tie
 
 abbrev Inv-loop : tie.InvT-loop
-Inv-loop list count i₀ i = i ≤ length list
+Inv-loop out₀ list count i₀ out i = i ≤ length list
 
 abbrev μ-loop : tie.MeasureT-loop
-μ-loop list count i₀ i = length list - i
+μ-loop out₀ list count i₀ out i = length list - i
 
 loop-holds : tie.Need-loop-holds Inv-loop μ-loop
 loop-holds c = search needs

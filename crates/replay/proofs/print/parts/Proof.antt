@@ -4,10 +4,10 @@ use Rattle.replay.proofs.print.parts.Statement.{statement}
 use Rattle.replay.proofs.print.parts.Tie as tie
 
 abbrev Inv-loop : tie.InvT-loop
-Inv-loop bytes width count at₀ i₀ at i = Unit {0}
+Inv-loop out₀ bytes from width count at₀ i₀ out at i = Unit {0}
 
 abbrev μ-loop : tie.MeasureT-loop
-μ-loop bytes width count at₀ i₀ at i = count - i
+μ-loop out₀ bytes from width count at₀ i₀ out at i = count - i
 
 loop-holds : tie.Need-loop-holds Inv-loop μ-loop
 loop-holds c = search needs

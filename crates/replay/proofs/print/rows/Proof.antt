@@ -5,10 +5,10 @@ use Rattle.replay.proofs.print.rows.Statement.{statement}
 use Rattle.replay.proofs.print.rows.Tie as tie
 
 abbrev Inv-loop : tie.InvT-loop
-Inv-loop list width rows at₀ i₀ t7 at i = at ≤ length list
+Inv-loop out₀ list width rows at₀ i₀ t8 out at i = at ≤ length list
 
 abbrev μ-loop : tie.MeasureT-loop
-μ-loop list width rows at₀ i₀ t7 at i = rows - i
+μ-loop out₀ list width rows at₀ i₀ t8 out at i = rows - i
 
 loop-holds : tie.Need-loop-holds Inv-loop μ-loop
 loop-holds c = search needs

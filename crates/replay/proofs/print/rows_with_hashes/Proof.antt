@@ -5,10 +5,10 @@ use Rattle.replay.proofs.print.rows_with_hashes.Statement.{statement}
 use Rattle.replay.proofs.print.rows_with_hashes.Tie as tie
 
 abbrev Inv-loop : tie.InvT-loop
-Inv-loop list width bytes hashes rows at₀ from₀ i₀ t10 at from i = at ≤ length list
+Inv-loop out₀ list width bytes hashes rows at₀ from₀ i₀ t11 out at from i = at ≤ length list
 
 abbrev μ-loop : tie.MeasureT-loop
-μ-loop list width bytes hashes rows at₀ from₀ i₀ t10 at from i = rows - i
+μ-loop out₀ list width bytes hashes rows at₀ from₀ i₀ t11 out at from i = rows - i
 
 loop-holds : tie.Need-loop-holds Inv-loop μ-loop
 loop-holds c = search needs
@@ -43,8 +43,8 @@ part-numbers-end c = search needs
 numbers-requires : tie.Need-numbers-requires Inv-loop μ-loop
 numbers-requires c κs = search needs
 
-hashes-requires : tie.Need-hashes-requires Inv-loop μ-loop
-hashes-requires c κs = search needs
+parts-requires : tie.Need-parts-requires Inv-loop μ-loop
+parts-requires c κs = search needs
 
 add-i : tie.Need-add-i Inv-loop μ-loop
 add-i c = search needs
@@ -75,7 +75,7 @@ rows-with-hashes-spec =
     part-numbers-start
     part-numbers-end
     numbers-requires
-    hashes-requires
+    parts-requires
     add-i
     loop-less
     loop-again

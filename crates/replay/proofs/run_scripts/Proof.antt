@@ -2,14 +2,14 @@ use Prim.Native.Nat.{_-_}
 use mathlib.Core.Path.{_≡_}
 use lib.ListN.{length}
 use borrow.Author.Needs.{needs}
-use Rattle.replay.proofs.main.Statement.{statement}
-use Rattle.replay.proofs.main.Tie as tie
+use Rattle.replay.proofs.run_scripts.Statement.{statement}
+use Rattle.replay.proofs.run_scripts.Tie as tie
 
 abbrev Inv-loop : tie.InvT-loop
-Inv-loop script₀ left₀ place₀ t7 t8 script left place = length script ≡ 65536
+Inv-loop out₀ script₀ left₀ place₀ t8 t9 out script left place = length script ≡ 65536
 
 abbrev μ-loop : tie.MeasureT-loop
-μ-loop script₀ left₀ place₀ t7 t8 script left place = 1048577 - place
+μ-loop out₀ script₀ left₀ place₀ t8 t9 out script left place = 1048577 - place
 
 loop-holds : tie.Need-loop-holds Inv-loop μ-loop
 loop-holds c = search needs
@@ -74,8 +74,8 @@ loop-again c = search needs
 returns-4 : tie.Need-returns-4 Inv-loop μ-loop
 returns-4 c = search needs
 
-pub main-spec : {M : Type 1} → statement M
-main-spec =
+pub run-scripts-spec : {M : Type 1} → statement M
+run-scripts-spec =
     tie.close
     (tie.spec
     Inv-loop

@@ -2,14 +2,14 @@ use Prim.Native.Nat.{_-_}
 use mathlib.Core.Path.{_≡_}
 use lib.ListN.{length}
 use borrow.Author.Needs.{needs}
-use Rattle.journals.proofs.main.Statement.{statement}
-use Rattle.journals.proofs.main.Tie as tie
+use Rattle.journals.proofs.run_items.Statement.{statement}
+use Rattle.journals.proofs.run_items.Tie as tie
 
 abbrev Inv-loop : tie.InvT-loop
-Inv-loop bytes₀ left₀ place₀ bytes left place = length bytes ≡ 65537
+Inv-loop out₀ bytes₀ left₀ place₀ out bytes left place = length bytes ≡ 65537
 
 abbrev μ-loop : tie.MeasureT-loop
-μ-loop bytes₀ left₀ place₀ bytes left place = 1048577 - place
+μ-loop out₀ bytes₀ left₀ place₀ out bytes left place = 1048577 - place
 
 loop-holds : tie.Need-loop-holds Inv-loop μ-loop
 loop-holds c = search needs
@@ -50,8 +50,8 @@ loop-again c = search needs
 returns-3 : tie.Need-returns-3 Inv-loop μ-loop
 returns-3 c = search needs
 
-pub main-spec : {M : Type 1} → statement M
-main-spec =
+pub run-items-spec : {M : Type 1} → statement M
+run-items-spec =
     tie.close
     (tie.spec
     Inv-loop
