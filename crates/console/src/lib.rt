@@ -6,6 +6,7 @@ ghost use Prim.Native.Nat.{_+_, _≤_};
 ghost use lib.ListN.{length, take};
 ghost use Rattle.console.specs.Lines.{counted, refusalLine, totalsLine, foldLine};
 ghost use Rattle.console.specs.Waiting.{count, waits, behind, allBehind, decimal, pairs};
+use libc::STDERR_FILENO;
 use libc::STDOUT_FILENO;
 
 // How many bytes wait at most.
@@ -130,4 +131,14 @@ pub fn fold_line(out: &mut Output, code: u64, totals: &[u8; 40])
     } else {
         refusal_line(out, code);
     }
+}
+
+// Whether the program was started with an argument, which it does not take. If so, its usage goes to standard error. Arguments
+// are no part of the logic either, so it promises nothing.
+pub fn is_misused(usage: &[u8]) -> bool {
+    if os::arg_count() < 2 {
+        return false;
+    }
+    io::write_all(STDERR_FILENO, usage);
+    true
 }

@@ -1,8 +1,11 @@
 // Folds the journal of standard input and prints one line: what is pending, the totals and the end, or a refusal.
 use libc::STDIN_FILENO;
 
-// Folds what it reads, and prints the line.
+// Refuses arguments, folds what it reads, and prints the line.
 fn main() {
+    if console::is_misused(b"usage: fold < JOURNAL\n") {
+        return;
+    }
     // one byte more than a journal may have, so that a longer one is refused
     let mut journal = [0u8; 65537];
     let n = io::read_full(STDIN_FILENO, &mut journal);

@@ -121,8 +121,11 @@ fn run_items(out: &mut Output) {
     }
 }
 
-// Runs on an empty buffer, and writes what waits at the end.
+// Refuses arguments, runs on an empty buffer, and writes what waits at the end.
 fn main() {
+    if console::is_misused(b"usage: journals < ITEMS\n") {
+        return;
+    }
     let mut out = [0u8; console::SIZE];
     run_items(&mut out);
     console::flush(&mut out);

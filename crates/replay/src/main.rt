@@ -122,8 +122,11 @@ fn run_scripts(out: &mut Output) {
     }
 }
 
-// Runs on an empty buffer, and writes what waits at the end.
+// Refuses arguments, runs on an empty buffer, and writes what waits at the end.
 fn main() {
+    if console::is_misused(b"usage: replay < SCRIPTS\n") {
+        return;
+    }
     let mut out = [0u8; console::SIZE];
     run_scripts(&mut out);
     console::flush(&mut out);
