@@ -111,3 +111,18 @@ pub(crate) fn finalities(out: &mut Output) {
     let mut bytes = [MARK; 128];
     finalise(out, &mut numbers, &mut bytes);
 }
+
+// Each call, lent slices that are three elements longer than their lists.
+pub(crate) fn longer(out: &mut Output) {
+    let mut rows = [MARK as u64; 41];
+    poll(out, &mut rows);
+    let mut rows = [MARK as u64; 41];
+    poll_with_content(out, &mut rows);
+    let mut tickets = [MARK as u64; 5];
+    evict(out, &mut tickets);
+    let mut tickets = [MARK as u64; 5];
+    reorganise(out, &mut tickets);
+    let mut numbers = [MARK as u64; 9];
+    let mut bytes = [MARK; 131];
+    finalise(out, &mut numbers, &mut bytes);
+}

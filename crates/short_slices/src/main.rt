@@ -1,4 +1,5 @@
-// Refusal 5 of each call that lists: the call is lent a slice that is one element short, and then one that is just long enough.
+// Refusal 5 of each call that lists: the call is lent a slice that is one element short, and then one that is just long enough. Behind
+// those come the same calls with longer slices, and what no script asks, whether a store is empty.
 use gap_quarantine::NonceConsumed;
 use gap_quarantine::ParkedFrame;
 use gap_quarantine::Quarantine;
@@ -67,5 +68,9 @@ fn main() {
     reads::blocks(&mut out);
     reads::senders(&mut out);
     reads::gaps(&mut out);
+    changing::longer(&mut out);
+    reads::longer(&mut out);
+    print::is_empty(&mut out, b"an empty store", Quarantine::new());
+    print::is_empty(&mut out, b"a store of two", tracked());
     console::flush(&mut out);
 }

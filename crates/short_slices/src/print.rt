@@ -47,6 +47,17 @@ pub(crate) fn listed(out: &mut Output, word: &[u8], l: Listed) {
     }
 }
 
+// Whether a store is empty.
+pub(crate) fn is_empty(out: &mut Output, what: &[u8], q: Quarantine) {
+    text(out, b"is_empty of ");
+    text(out, what);
+    if q.is_empty() {
+        text(out, b": true\n");
+    } else {
+        text(out, b": false\n");
+    }
+}
+
 // ---- slices
 
 // How a slice is named: the only one of its call, or one of two.

@@ -70,3 +70,14 @@ pub(crate) fn gaps(out: &mut Output) {
     let mut whole = [MARK as u64; 3];
     list_gap(out, &mut whole);
 }
+
+// Each call, lent slices that are three elements longer than their lists.
+pub(crate) fn longer(out: &mut Output) {
+    let mut numbers = [MARK as u64; 5];
+    let mut bytes = [MARK; 67];
+    list_blocks(out, &mut numbers, &mut bytes);
+    let mut bytes = [MARK; 23];
+    list_senders(out, &mut bytes);
+    let mut numbers = [MARK as u64; 6];
+    list_gap(out, &mut numbers);
+}
