@@ -241,7 +241,27 @@ fn reading_scripts() -> Vec<Vec<Call>> {
     ]
 }
 
+/// Corners of a poll.
+fn corner_scripts() -> Vec<Vec<Call>> {
+    vec![
+        // no head is above this claim
+        vec![push(F, A, u64::MAX - 1, u64::MAX, 7), poll(u64::MAX - 1, &[]), poll(u64::MAX, &[]), Call::Len],
+        // known nonces out of order, twice, and outside the gap
+        vec![f(), poll(5, &[900, 7, 5, 6, 5])],
+        // two frames with one ticket
+        vec![f(), push(G, A, 5, 8, 7), poll(8, &[])],
+        // an empty gap: held by a guard, and rescued where no content comes
+        vec![push(F, A, 9, 8, 7), guard(F, Some(9), &[], &H), poll_of(A, 3, [], pair(1, H)), poll(3, &[])],
+        // an empty gap of a degraded frame
+        vec![
+            Call::Push(Frame { hash: F, from: A, expected: 9, claim: 8, chain_id: 0, gas: 0, ticket: 7 }),
+            poll(3, &[]),
+            poll(3, &[]),
+        ],
+    ]
+}
+
 /// The scripts of docs/ANSWERS.md, by call.
 pub fn answers() -> Vec<Vec<Call>> {
-    [push_scripts(), poll_scripts(), guard_scripts(), block_scripts(), reading_scripts()].concat()
+    [push_scripts(), poll_scripts(), guard_scripts(), block_scripts(), reading_scripts(), corner_scripts()].concat()
 }
