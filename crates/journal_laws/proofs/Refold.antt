@@ -11,7 +11,7 @@ use lib.Seq.{take-at, drop-at}
 use borrow.Author.Tests.{le-ltb, eq-eqb}
 use Rattle.lists.specs.Bytes.{Bytes, eqBytes, Before}
 use Rattle.lists.specs.Lists.{Each, collect}
-use Rattle.lists.proofs.ByteOrder.{eqBytes-of, eqBytes-sym, before-not-after}
+use Rattle.lists.proofs.ByteOrder.{eqBytes-sym, before-not-after}
 use Rattle.lists.proofs.Keeping.{each-append, each-map}
 use Rattle.wire.specs.HashText.{parseHash}
 use Rattle.layout.specs.Layout.{size, join}

@@ -1,4 +1,3 @@
-use mathlib.Core.Path.{refl, _∙_}
 use Rattle.console.proofs.Putting.{put-waits}
 use borrow.Author.Needs.{needs}
 use Rattle.console.proofs.put.Statement.{statement}
