@@ -3,6 +3,7 @@
 ghost use mathlib.Core.Path.{_≡_};
 ghost use mathlib.Core.List.{[], _∷_, _++_};
 ghost use Prim.Native.Nat.{_+_, _≤_};
+ghost use lib.Dec.{ltb};
 ghost use lib.ListN.{length, take};
 ghost use Rattle.console.specs.Lines.{counted, refusalLine, totalsLine, foldLine};
 ghost use Rattle.console.specs.Waiting.{count, waits, behind, allBehind, decimal, pairs};
@@ -133,10 +134,12 @@ pub fn fold_line(out: &mut Output, code: u64, totals: &[u8; 40])
     }
 }
 
-// Whether the program was started with an argument, which it does not take. If so, its usage goes to standard error. Arguments
-// are no part of the logic either, so it promises nothing.
-pub fn is_misused(usage: &[u8]) -> bool {
-    if os::arg_count() < 2 {
+// Whether a program that takes no argument was given one: its own name counts among them. If so, its usage goes to standard
+// error.
+pub fn is_misused(arguments: usize, usage: &[u8]) -> bool
+    ensures { λ r. ⌜ r ≡ ltb 1 arguments ⌝ }
+{
+    if arguments <= 1 {
         return false;
     }
     io::write_all(STDERR_FILENO, usage);

@@ -3,7 +3,7 @@ use libc::STDIN_FILENO;
 
 // Refuses arguments, folds what it reads, and prints the line.
 fn main() {
-    if console::is_misused(b"usage: fold < JOURNAL\n") {
+    if console::is_misused(os::arg_count(), b"usage: fold < JOURNAL\n") {
         return;
     }
     // one byte more than a journal may have, so that a longer one is refused

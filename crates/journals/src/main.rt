@@ -123,7 +123,7 @@ fn run_items(out: &mut Output) {
 
 // Refuses arguments, runs on an empty buffer, and writes what waits at the end.
 fn main() {
-    if console::is_misused(b"usage: journals < ITEMS\n") {
+    if console::is_misused(os::arg_count(), b"usage: journals < ITEMS\n") {
         return;
     }
     let mut out = [0u8; console::SIZE];

@@ -124,7 +124,7 @@ fn run_scripts(out: &mut Output) {
 
 // Refuses arguments, runs on an empty buffer, and writes what waits at the end.
 fn main() {
-    if console::is_misused(b"usage: replay < SCRIPTS\n") {
+    if console::is_misused(os::arg_count(), b"usage: replay < SCRIPTS\n") {
         return;
     }
     let mut out = [0u8; console::SIZE];

@@ -57,7 +57,7 @@ pub(crate) fn tentative(first_block: u64, second_block: u64) -> Quarantine {
 
 // Refuses arguments, and prints every line.
 fn main() {
-    if console::is_misused(b"usage: short_slices\n") {
+    if console::is_misused(os::arg_count(), b"usage: short_slices\n") {
         return;
     }
     let mut out = [0u8; console::SIZE];
