@@ -53,30 +53,30 @@ fuel (suc k) (suc j) bs at s h i = go (stepped bs s) (λ n u. fuel k j (drop n b
 
 -- ---- a journal that folds
 
-pub record Folds (journal : Bytes) (room : ℕ) (s : Folded) (end : ℕ) : Type 0 where
+pub record FoldsWithin (journal : Bytes) (room : ℕ) (s : Folded) (end : ℕ) : Type 0 where
   pub short : length journal ≤ 65536
   pub from : foldFrom (length journal) journal 0 begin ≡ folded s end
   pub fitting : 240 * length (s .pending) ≤ room
 
-pub folds : (journal : Bytes) (room : ℕ) (s : Folded) (end : ℕ) → foldInto journal room ≡ folded s end → Folds journal room s end
+pub folds : (journal : Bytes) (room : ℕ) (s : Folded) (end : ℕ) → foldInto journal room ≡ folded s end → FoldsWithin journal room s end
 unfolding foldInto foldJournal roomFor sizeOf layoutOf size
 folds journal room s end h = sized (ltb 65536 (length journal)) refl h
   where
-    outcome : length journal ≤ 65536 → (o : Outcome) → foldFrom (length journal) journal 0 begin ≡ o → roomFor room o ≡ folded s end → Folds journal room s end
+    outcome : length journal ≤ 65536 → (o : Outcome) → foldFrom (length journal) journal 0 begin ≡ o → roomFor room o ≡ folded s end → FoldsWithin journal room s end
     outcome l (refused n at) e q = let z : _≡_ {A = ℕ} 0 1 = cc in absurd (omega arith)
     outcome l (folded t at) e q = roomy (ltb room (240 * length (t .pending))) refl q
       where
-        roomy : (b : Bool) → ltb room (240 * length (t .pending)) ≡ b → cond b (refused 13 at) (folded t at) ≡ folded s end → Folds journal room s end
+        roomy : (b : Bool) → ltb room (240 * length (t .pending)) ≡ b → cond b (refused 13 at) (folded t at) ≡ folded s end → FoldsWithin journal room s end
         roomy true p r = let z : _≡_ {A = ℕ} 0 1 = cc in absurd (omega arith)
         roomy false p r =
             let d : t ≡ s = cc in
             record { short = l; from = e ∙ r; fitting = subst (λ (x : Folded). 240 * length (x .pending) ≤ room) d (ltb-false _ _ p) }
 
-    sized : (b : Bool) → ltb 65536 (length journal) ≡ b → roomFor room (cond b (refused 9 65536) (foldFrom (length journal) journal 0 begin)) ≡ folded s end → Folds journal room s end
+    sized : (b : Bool) → ltb 65536 (length journal) ≡ b → roomFor room (cond b (refused 9 65536) (foldFrom (length journal) journal 0 begin)) ≡ folded s end → FoldsWithin journal room s end
     sized true e q = let z : _≡_ {A = ℕ} 0 1 = cc in absurd (omega arith)
     sized false e q = outcome (ltb-false 65536 (length journal) e) (foldFrom (length journal) journal 0 begin) refl q
 
-pub folds-of : (journal : Bytes) (room : ℕ) (s : Folded) (end : ℕ) → Folds journal room s end → foldInto journal room ≡ folded s end
+pub folds-of : (journal : Bytes) (room : ℕ) (s : Folded) (end : ℕ) → FoldsWithin journal room s end → foldInto journal room ≡ folded s end
 unfolding foldInto foldJournal roomFor sizeOf layoutOf size
 folds-of journal room s end f =
     rw (le-ltb 65536 (length journal) (f .short), f .from, le-ltb room (240 * length (s .pending)) (f .fitting))

@@ -1,4 +1,4 @@
--- The proofs of `Places`, `Codes` and `Restores`.
+-- The proofs of `Places`, `Codes` and `RestoreNumbers`.
 use Prim.Native.Nat.{ℕ, zero, suc, _+_, _*_, _≤_}
 use native.Mathlib.Omega.{arith}
 use mathlib.Core.Path.{_≡_, refl, sym, ap, _∙_, subst}
@@ -20,7 +20,7 @@ use Rattle.gap_quarantine_journal.specs.Export.{turnedAway, exportedAs, exporte
 use Rattle.gap_quarantine_journal.specs.Restore as restoring
 use Rattle.gap_quarantine_journal.specs.Restore.{restored, frameOf, restoreDegraded, restoreFull, restoreAs, restoreHash, restorePark, restore}
 use Rattle.journal_laws.specs.CutRule.{past, recordsFrom, records, foldOf}
-use Rattle.journal_laws.specs.Places.{Place, whole, inRecord, last, Places, Code, done, away, Codes, RestoreNumber, Restores}
+use Rattle.journal_laws.specs.Places.{Place, whole, inRecord, last, Places, Code, done, away, Codes, RestoreNumber, RestoreNumbers}
 use Rattle.journal_laws.proofs.Steps.{AtRecord, unknownMark, outsideLayout, overKeys, Stepped, stops, refuses, reads, stepped}
 use Rattle.journal_laws.proofs.Folds.{folds, folds-of}
 use Rattle.journal_laws.proofs.KeyOrder.{fold-order}
@@ -149,7 +149,7 @@ unfolding restoreDegraded
 restore-degraded p hash none n h = cc
 restore-degraded p hash (some sender) n h = cc
 
-pub restores : Restores
+pub restores : RestoreNumbers
 unfolding restore restorePark restoreHash restoreAs isIn
 restores bs n h = go (isPark bs) h
   where

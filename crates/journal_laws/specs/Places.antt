@@ -1,4 +1,4 @@
--- Where a call is turned away, and with which numbers: `Places` of the fold, `Codes` of the exported function, `Restores` of restore.
+-- Where a call is turned away, and with which numbers: `Places` of the fold, `Codes` of the exported function, `RestoreNumbers` of restore.
 use Prim.Native.Nat.{ℕ, _+_, _*_, _≤_, _<_}
 use mathlib.Core.Path.{_≡_}
 use mathlib.Core.Bool.{true}
@@ -38,5 +38,5 @@ Codes = (journal out totals : Bytes) → Code (exported journal out totals .code
 abbrev pub RestoreNumber : ℕ → Type 0
 RestoreNumber n = isIn n (11 ∷ 14 ∷ 15 ∷ 16 ∷ []) ≡ true
 
-abbrev pub Restores : Type 0
-Restores = (bs : Bytes) (n : ℕ) → restore bs ≡ restoring.refused n → RestoreNumber n
+abbrev pub RestoreNumbers : Type 0
+RestoreNumbers = (bs : Bytes) (n : ℕ) → restore bs ≡ restoring.refused n → RestoreNumber n
