@@ -1,5 +1,5 @@
 /* The fold of a journal into its pending park records, and the frame of one, for C. The library is
- * target/staticlib/libgap_quarantine_journal.a. */
+ * target/staticlib/libjournal_exports.a. */
 #ifndef GAP_QUARANTINE_JOURNAL_H
 #define GAP_QUARANTINE_JOURNAL_H
 

@@ -1,10 +1,10 @@
-// Links the archive that `rt staticlib gap_quarantine_journal` writes.
+// Links the archive that `rt staticlib journal_exports` writes.
 use std::path::PathBuf;
 
 fn main() {
     let here = PathBuf::from(std::env::var("CARGO_MANIFEST_DIR").unwrap());
     let archives = here.join("../target/staticlib");
     println!("cargo:rustc-link-search=native={}", archives.display());
-    println!("cargo:rustc-link-lib=static=gap_quarantine_journal");
-    println!("cargo:rerun-if-changed={}", archives.join("libgap_quarantine_journal.a").display());
+    println!("cargo:rustc-link-lib=static=journal_exports");
+    println!("cargo:rerun-if-changed={}", archives.join("libjournal_exports.a").display());
 }

@@ -11,11 +11,7 @@ fn main() {
     let n = io::read_full(STDIN_FILENO, &mut journal);
     let mut pending = [0u8; 15360];
     let mut totals = [0u8; 40];
-    let code = gap_quarantine_journal::gap_quarantine_fold(
-        &journal[0..n],
-        &mut pending,
-        &mut totals,
-    );
+    let code = journal_exports::gap_quarantine_fold(&journal[0..n], &mut pending, &mut totals);
     let mut out = [0u8; console::SIZE];
     console::fold_line(&mut out, code, &totals);
     console::flush(&mut out);

@@ -4,5 +4,4 @@ pub mod Editing
 pub mod Stepping
 pub mod Bounds
 pub mod Going
-pub mod Exporting
 pub mod Restoring

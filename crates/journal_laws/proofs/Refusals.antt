@@ -16,9 +16,9 @@ use Rattle.journal_record.specs.Records.{Fidelity, full, degraded, Park}
 use Rattle.layout.specs.Layout.{size}
 use Rattle.journal_record.specs.Reading.{layoutOf, sizeOf, parkOf, isPark}
 use Rattle.gap_quarantine_journal.specs.Fold.{Folded, begin, refuse, stepOf, Outcome, folded, refused, after, foldFrom, roomFor, foldJournal, foldInto}
-use Rattle.gap_quarantine_journal.specs.Export.{turnedAway, exportedAs, exported}
 use Rattle.gap_quarantine_journal.specs.Restore as restoring
 use Rattle.gap_quarantine_journal.specs.Restore.{restored, frameOf, restoreDegraded, restoreFull, restoreAs, restoreHash, restorePark, restore}
+use Rattle.journal_exports.specs.Export.{turnedAway, exportedAs, exported}
 use Rattle.journal_laws.specs.CutRule.{past, recordsFrom, records, foldOf}
 use Rattle.journal_laws.specs.Places.{Place, whole, inRecord, last, Places, Code, done, away, Codes, RestoreNumber, RestoreNumbers}
 use Rattle.journal_laws.proofs.Steps.{AtRecord, unknownMark, outsideLayout, overKeys, Stepped, stops, refuses, reads, stepped}

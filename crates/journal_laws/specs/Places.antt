@@ -8,9 +8,9 @@ use Rattle.lists.specs.Bytes.{Bytes}
 use Rattle.lists.specs.Lists.{isIn}
 use Rattle.journal_record.specs.Reading.{park, sizeOf}
 use Rattle.gap_quarantine_journal.specs.Fold.{Folded, begin, refuse, stepOf, folded, refused, foldInto}
-use Rattle.gap_quarantine_journal.specs.Export.{exported}
 use Rattle.gap_quarantine_journal.specs.Restore as restoring
 use Rattle.gap_quarantine_journal.specs.Restore.{restore}
+use Rattle.journal_exports.specs.Export.{exported}
 use Rattle.journal_laws.specs.CutRule.{records, foldOf}
 
 -- the number and the offset of a fold's refusal

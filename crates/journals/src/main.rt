@@ -26,7 +26,7 @@ fn print_frame(out: &mut Output, frame: &[u8; 92]) {
 // The frame of a record, or its refusal.
 fn print_restored(out: &mut Output, record: &[u8]) {
     let mut frame = [0u8; 92];
-    let code = gap_quarantine_journal::gap_quarantine_restore(record, &mut frame);
+    let code = journal_exports::gap_quarantine_restore(record, &mut frame);
     console::text(out, b"restore ");
     if code == 0 {
         print_frame(out, &frame);
@@ -57,7 +57,7 @@ fn print_pending(out: &mut Output, records: &[u8], count: u64) {
 // Folds a journal.
 fn run_journal(out: &mut Output, journal: &[u8], records: &mut [u8]) {
     let mut totals = [0u8; 40];
-    let code = gap_quarantine_journal::gap_quarantine_fold(journal, records, &mut totals);
+    let code = journal_exports::gap_quarantine_fold(journal, records, &mut totals);
     console::fold_line(out, code, &totals);
     if code == 0 {
         print_pending(out, records, wire::number(&totals, 0, 8));

@@ -15,15 +15,15 @@ use Rattle.refusal.specs.declared.Refusal.the-variants.{WideGap, StoreFull, Man
 use Rattle.layout.specs.Layout.{size}
 use Rattle.journal_record.specs.Reading.{layoutOf, sizeOf}
 use Rattle.journal_record.specs.View.{parkSeen}
-use Rattle.gap_quarantine_journal.specs.Fold.{roomFor, foldJournal, foldInto, output}
 use Rattle.store_rules.specs.View.{frameOf}
+use Rattle.gap_quarantine_journal.specs.Fold.{roomFor, foldJournal, foldInto, output}
 use Rattle.gap_quarantine_journal.specs.Restore.{restore}
-use Rattle.gap_quarantine_journal.specs.Export.{turnedAway, fiveTotals, exportedAs, exported, frameBytes, exportedFrameAs, exportedFrame}
 use Rattle.gap_quarantine_journal.specs.View.{parksSeen, Folds, Restores}
 use Rattle.gap_quarantine_journal.specs.declared.change.FoldOutcome.the-variants as outcome
 use Rattle.gap_quarantine_journal.specs.declared.fold.FoldedJournal.{FoldedJournal}
 use Rattle.gap_quarantine_journal.specs.declared.restore.RestoreAnswer.the-variants as answer
 use Rattle.gap_quarantine_journal.specs.declared.restore.RestoredFrame.{RestoredFrame}
+use Rattle.journal_exports.specs.Export.{turnedAway, fiveTotals, exportedAs, exported, frameBytes, exportedFrameAs, exportedFrame}
 
 -- ---- a refusal's number
 

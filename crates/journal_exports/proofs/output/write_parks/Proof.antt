@@ -8,11 +8,11 @@ use Rattle.lists.proofs.Compacting.{long}
 use Rattle.lists.proofs.Writing.{Wrote, start, wrote-more, wrote-all}
 use Rattle.journal_record.specs.Writing.{parkBytes}
 use Rattle.journal_record.specs.View.{parkSeen}
 use Rattle.gap_quarantine_journal.specs.Fold.{output}
-use Rattle.gap_quarantine_journal.proofs.Exporting.{paste-at}
+use Rattle.journal_exports.proofs.Exporting.{paste-at}
 use borrow.Author.Needs.{needs}
-use Rattle.gap_quarantine_journal.proofs.output.write_parks.Statement.{statement}
-use Rattle.gap_quarantine_journal.proofs.output.write_parks.Tie as tie
+use Rattle.journal_exports.proofs.output.write_parks.Statement.{statement}
+use Rattle.journal_exports.proofs.output.write_parks.Tie as tie
 
 abbrev Inv-loop : tie.InvT-loop
 Inv-loop out₀ set count i₀ out i = Wrote parkSeen parkBytes 240 (set .parks) count out₀ out i

@@ -1,8 +1,8 @@
 use native.Mathlib.Omega.{arith}
-use Rattle.gap_quarantine_journal.proofs.Exporting.{number-small}
+use Rattle.journal_exports.proofs.Exporting.{number-small}
 use borrow.Author.Needs.{needs}
-use Rattle.gap_quarantine_journal.proofs.output.code_of.Statement.{statement}
-use Rattle.gap_quarantine_journal.proofs.output.code_of.Tie as tie
+use Rattle.journal_exports.proofs.output.code_of.Statement.{statement}
+use Rattle.journal_exports.proofs.output.code_of.Tie as tie
 
 number-requires : tie.Need-number-requires
 number-requires c κs = search needs

@@ -4,10 +4,10 @@ use lib.ListN.{length}
 use Rattle.wire.specs.Numbers.{digits}
 use Rattle.wire.proofs.NumberLaws.{length-digits}
 use Rattle.journal_record.proofs.WriteLaws.{begun, put, put-whole, ended}
-use Rattle.gap_quarantine_journal.specs.Export.{frameBytes}
+use Rattle.journal_exports.specs.Export.{frameBytes}
 use borrow.Author.Needs.{needs, length-unmapped}
-use Rattle.gap_quarantine_journal.proofs.output.write_frame.Statement.{statement}
-use Rattle.gap_quarantine_journal.proofs.output.write_frame.Tie as tie
+use Rattle.journal_exports.proofs.output.write_frame.Statement.{statement}
+use Rattle.journal_exports.proofs.output.write_frame.Tie as tie
 
 hash-long : (c : tie.Start) → length (c .args .f .hash) ≡ 32
 hash-long c = search (needs, length-unmapped)

@@ -6,8 +6,8 @@ use Rattle.wire.proofs.NumberLaws.{length-digits}
 use Rattle.layout.specs.Layout.{join}
 use Rattle.journal_record.proofs.WriteLaws.{begun, put, ended}
 use borrow.Author.Needs.{needs}
-use Rattle.gap_quarantine_journal.proofs.output.write_totals.Statement.{statement}
-use Rattle.gap_quarantine_journal.proofs.output.write_totals.Tie as tie
+use Rattle.journal_exports.proofs.output.write_totals.Statement.{statement}
+use Rattle.journal_exports.proofs.output.write_totals.Tie as tie
 
 put-number-requires : tie.Need-put-number-requires
 put-number-requires c κs = search needs
