@@ -25,7 +25,7 @@ pub(crate) fn write_parks(set: PendingSet, out: &mut [u8])
     let mut i = 0;
     while i < count {
         let park = set.parks[i];
-        let bytes = journal_record::park_bytes(park);
+        let bytes = journal_writer::park_bytes(park);
         wire::put_bytes(out, PARK_SIZE * i, &bytes);
         i += 1;
     }

@@ -3,6 +3,5 @@ pub mod Folds
 pub mod KeyOrder
 pub mod Cut
 pub mod Refusals
-pub mod RoundTrip
 pub mod Settling
 pub mod Refold

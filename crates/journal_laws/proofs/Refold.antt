@@ -17,7 +17,8 @@ use Rattle.wire.specs.HashText.{parseHash}
 use Rattle.layout.specs.Layout.{size, join}
 use Rattle.journal_record.specs.Records.{Fidelity, full, degraded, Park, parkMark}
 use Rattle.journal_record.specs.Reading.{park, formOf, layoutOf, sizeOf, versionOf, accepted, isPark}
-use Rattle.journal_record.specs.Writing.{parkFields, parkBytes}
+use Rattle.journal_writer.specs.Writing.{formIn, parkValue, parkFields, fieldsOf, bytesOf, parkBytes}
+use Rattle.journal_writer.proofs.Back.{reads-back, value-fits, value-long, park-back}
 use Rattle.gap_quarantine_journal.specs.Pending.{putPark, isNonZero, isFull, fullOr, settledFidelity}
 use Rattle.gap_quarantine_journal.specs.Fold.{Folded, begin, read, keep64, applyPark, apply, stepWhole, stepOf, folded, after, foldFrom, output}
 use Rattle.gap_quarantine_journal.specs.Restore.{refused, restoreDegraded, restoreFull, restoreAs, restoreHash, restorePark, restore}
@@ -26,7 +27,6 @@ use Rattle.journal_laws.specs.Refolding.{Refolding, NoSixteen}
 use Rattle.journal_laws.proofs.Steps.{sizes, step-whole}
 use Rattle.journal_laws.proofs.Folds.{fold-none, folds, folds-of}
 use Rattle.journal_laws.proofs.KeyOrder.{fold-order}
-use Rattle.journal_laws.proofs.RoundTrip.{park-fits, park-long, park-version, park-back}
 use Rattle.journal_laws.proofs.Settling.{Settled, settled-stays, fold-settled}
 
 -- ---- one record of the output
@@ -36,17 +36,21 @@ abbrev only : List Park → Folded
 only ps = record { pending = ps; counts = begin .counts }
 
 mark : (p : Park) (rest : Bytes) → take 2 (parkBytes p ++ rest) ≡ parkMark
-unfolding parkBytes join parkFields
+unfolding bytesOf join fieldsOf parkFields
 mark p rest = refl
 
 park-form : formOf parkMark ≡ some park
 unfolding formOf eqBytes
 park-form = refl
 
+park-long : (p : Park) → Settled p → length (parkBytes p) ≡ 240
+unfolding formIn
+park-long p h = value-long (parkValue p) (h .sizes) ∙ sizes .0
+
 module _ (p : Park) (h : Settled p) where
   park-accepted : accepted park (parkBytes p) ≡ true
-  unfolding accepted layoutOf versionOf
-  park-accepted = rw (park-fits p (h .sizes), park-version p (h .sizes), h .version)
+  unfolding formIn
+  park-accepted = reads-back (parkValue p) (h .sizes) .accepts
 
   step-written : (qs : List Park) → length (putPark p qs) ≤ 64 → stepWhole park (parkBytes p) (only qs) ≡ read 240 (only (putPark p qs))
   unfolding stepWhole apply applyPark keep64
@@ -56,7 +60,7 @@ module _ (p : Park) (h : Settled p) where
   step-output : (rest : Bytes) (qs : List Park) → length (putPark p qs) ≤ 64 → stepOf (parkBytes p ++ rest) (only qs) ≡ read 240 (only (putPark p qs))
   step-output rest qs l =
       let a = length-append (parkBytes p) rest in
-      let b = park-long p (h .sizes) in
+      let b = park-long p h in
       let c = sizes .0 in
       step-whole (parkBytes p ++ rest) (only qs) (omega arith) park (ap formOf (mark p rest) ∙ park-form) (omega arith)
       ∙ ap (λ (x : Bytes). stepWhole park x (only qs)) (take-at (parkBytes p) rest (sizeOf park) (b ∙ sym c)) ∙ step-written qs l
@@ -76,7 +80,7 @@ unfolding output collect
 length-output [] h = refl
 length-output (p ∷ ps) h =
     let a = length-append (parkBytes p) (output ps) in
-    let b = park-long p (h .0 .sizes) in
+    let b = park-long p (h .0) in
     let c = length-output ps (h .1) in
     omega arith
 
@@ -92,7 +96,7 @@ refold (suc k) qs (p ∷ ps) at l h a n =
     let y = ap length more in
     let few : length (putPark p qs) ≤ 64 = rw put (omega arith) in
     let z = length-append (parkBytes p) (output ps) in
-    let b = park-long p (h .0 .sizes) in
+    let b = park-long p (h .0) in
     let end : at + 240 + length (output ps) ≡ at + length (parkBytes p ++ output ps) = omega arith in
     rw (step-output p (h .0) (output ps) qs few, put, drop-at (parkBytes p) (output ps) 240 b, ← end, ← more)
     (refold k (qs ++ (p ∷ [])) ps (at + 240) (omega arith) (h .1) (rw more a) (omega arith))
@@ -115,8 +119,8 @@ refolding journal room s end bytes h =
 
 module _ (p : Park) (h : Settled p) where
   park-restored : restore (parkBytes p) ≡ restorePark p
-  unfolding restore isPark sizeOf layoutOf size
-  park-restored = rw (eq-eqb (length (parkBytes p)) 240 (park-long p (h .sizes)), park-fits p (h .sizes), park-back p (h .sizes))
+  unfolding restore isPark sizeOf layoutOf size formIn
+  park-restored = rw (eq-eqb (length (parkBytes p)) 240 (park-long p h), value-fits (parkValue p) (h .sizes), park-back p (h .sizes))
 
 full-is : (b : Bool) → fullOr b ≡ full → b ≡ true
 unfolding fullOr

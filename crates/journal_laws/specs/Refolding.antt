@@ -5,7 +5,7 @@ use mathlib.Core.Path.{_≡_}
 use lib.ListN.{length}
 use Rattle.lists.specs.Bytes.{Bytes}
 use Rattle.lists.specs.Lists.{Each}
-use Rattle.journal_record.specs.Writing.{parkBytes}
+use Rattle.journal_writer.specs.Writing.{parkBytes}
 use Rattle.gap_quarantine_journal.specs.Fold.{Folded, begin, folded, foldInto, output}
 use Rattle.gap_quarantine_journal.specs.Restore.{refused, restorePark, restore}
 

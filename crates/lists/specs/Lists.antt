@@ -1,6 +1,6 @@
 -- Lists: what passes a test, what holds of every element or of every two, and a list written to the front of a slice.
 use Prim.Native.Nat.{ℕ, zero, suc}
-use mathlib.Core.Bool.{Bool, true, false, _||_, cond}
+use mathlib.Core.Bool.{Bool, true, false, _&&_, _||_, cond}
 use mathlib.Core.List.{List, [], _∷_, _++_}
 use lib.Dec.{eqb}
 use lib.ListN.{length, take, drop}
@@ -24,6 +24,11 @@ module _ {A : Type 0} where
   abbrev pub Pairwise : (A → A → Type 0) → List A → Type 0
   Pairwise R [] = Unit {0}
   Pairwise R (x ∷ xs) = Each (R x) xs × Pairwise R xs
+
+-- all of these tests pass
+unfoldable pub every : List Bool → Bool
+every [] = true
+every (b ∷ bs) = b && every bs
 
 -- what each element comes to, one after another
 unfoldable pub collect : {A B : Type 0} → (A → List B) → List A → List B

@@ -1,9 +1,11 @@
+use native.Mathlib.Omega.{arith}
 use mathlib.Core.Path.{_≡_, refl}
 use mathlib.Core.List.{[], _∷_}
 use lib.ListN.{length}
 use Rattle.wire.specs.Numbers.{digits}
 use Rattle.wire.proofs.NumberLaws.{length-digits}
-use Rattle.journal_record.proofs.WriteLaws.{begun, put, put-whole, ended}
+use Rattle.layout.specs.Layout.{join}
+use Rattle.journal_writer.proofs.Filling.{begun, put, put-whole, ended, alone}
 use Rattle.journal_exports.specs.Export.{frameBytes}
 use borrow.Author.Needs.{needs, length-unmapped}
 use Rattle.journal_exports.proofs.output.write_frame.Statement.{statement}
@@ -54,15 +56,15 @@ unfolding frameBytes
 returns c =
     let f = (c .before .before .before .before .before .before .before .before .before .before .before .before .before .before .before .before .before .before .before .before .before .before .before .before .before .before .before .before .before .before .before .before .before) .args .f in
     let fields = f .hash ∷ f .from ∷ digits 8 (f .expected) ∷ digits 8 (f .claim) ∷ digits 8 (f .«chain_id») ∷ digits 8 (f .gas) ∷ digits 8 (f .ticket) ∷ [] in
-    let w = begun 92 fields ((c .before .before .before .before .before .before .before .before .before .before .before .before .before .before .before .before .before .before .before .before .before .before .before .before .before .before .before .before .before .before .before .before .before) .args .out .now) ((c .before .before .before .before .before .before .before .before .before .before .before .before .before .before .before .before .before .before .before .before .before .before .before .before .before .before .before .before .before .before .before .before .before) .pre) in
-    let w = put-whole w ((c .before .before .before .before .before .before .before .before .before .before .before .before .before .before .before .before .before .before .before .before .before .before .before .before .before .before .before) .put-bytes .last .0) 32 (hash-long (c .before .before .before .before .before .before .before .before .before .before .before .before .before .before .before .before .before .before .before .before .before .before .before .before .before .before .before .before .before .before .before .before .before)) refl ((c .before .before .before .before .before .before .before .before .before .before .before .before .before .before .before .before .before .before .before .before .before .before .before .before .before .before .before) .put-bytes .ensures) in
-    let w = put-whole w ((c .before .before .before .before .before .before .before .before .before .before .before .before .before .before .before .before .before .before .before .before .before .before) .put-bytes2 .last .0) 20 (from-long (c .before .before .before .before .before .before .before .before .before .before .before .before .before .before .before .before .before .before .before .before .before .before .before .before .before .before .before .before .before .before .before .before .before)) refl ((c .before .before .before .before .before .before .before .before .before .before .before .before .before .before .before .before .before .before .before .before .before .before) .put-bytes2 .ensures) in
-    let w = put w ((c .before .before .before .before .before .before .before .before .before .before .before .before .before .before .before .before .before .before) .put-number .last .0) 8 (length-digits 8 (f .expected)) refl ((c .before .before .before .before .before .before .before .before .before .before .before .before .before .before .before .before .before .before) .put-number .ensures) in
-    let w = put w ((c .before .before .before .before .before .before .before .before .before .before .before .before .before .before) .put-number2 .last .0) 8 (length-digits 8 (f .claim)) refl ((c .before .before .before .before .before .before .before .before .before .before .before .before .before .before) .put-number2 .ensures) in
-    let w = put w ((c .before .before .before .before .before .before .before .before .before .before) .put-number3 .last .0) 8 (length-digits 8 (f .«chain_id»)) refl ((c .before .before .before .before .before .before .before .before .before .before) .put-number3 .ensures) in
-    let w = put w ((c .before .before .before .before .before .before) .put-number4 .last .0) 8 (length-digits 8 (f .gas)) refl ((c .before .before .before .before .before .before) .put-number4 .ensures) in
-    let w = put w ((c .before .before) .put-number5 .last .0) 8 (length-digits 8 (f .ticket)) refl ((c .before .before) .put-number5 .ensures) in
-    ended w
+    let w = begun ((c .before .before .before .before .before .before .before .before .before .before .before .before .before .before .before .before .before .before .before .before .before .before .before .before .before .before .before .before .before .before .before .before .before) .args .out .now) 0 92 fields (omega (arith, ((c .before .before .before .before .before .before .before .before .before .before .before .before .before .before .before .before .before .before .before .before .before .before .before .before .before .before .before .before .before .before .before .before .before) .pre))) in
+    let w = put-whole w ((c .before .before .before .before .before .before .before .before .before .before .before .before .before .before .before .before .before .before .before .before .before .before .before .before .before .before .before) .put-bytes .last .0) 0 32 (hash-long (c .before .before .before .before .before .before .before .before .before .before .before .before .before .before .before .before .before .before .before .before .before .before .before .before .before .before .before .before .before .before .before .before .before)) ((c .before .before .before .before .before .before .before .before .before .before .before .before .before .before .before .before .before .before .before .before .before .before .before .before .before .before .before) .put-bytes .ensures) refl refl in
+    let w = put-whole w ((c .before .before .before .before .before .before .before .before .before .before .before .before .before .before .before .before .before .before .before .before .before .before) .put-bytes2 .last .0) 32 20 (from-long (c .before .before .before .before .before .before .before .before .before .before .before .before .before .before .before .before .before .before .before .before .before .before .before .before .before .before .before .before .before .before .before .before .before)) ((c .before .before .before .before .before .before .before .before .before .before .before .before .before .before .before .before .before .before .before .before .before .before) .put-bytes2 .ensures) refl refl in
+    let w = put w ((c .before .before .before .before .before .before .before .before .before .before .before .before .before .before .before .before .before .before) .put-number .last .0) 52 8 (length-digits 8 (f .expected)) ((c .before .before .before .before .before .before .before .before .before .before .before .before .before .before .before .before .before .before) .put-number .ensures) refl refl in
+    let w = put w ((c .before .before .before .before .before .before .before .before .before .before .before .before .before .before) .put-number2 .last .0) 60 8 (length-digits 8 (f .claim)) ((c .before .before .before .before .before .before .before .before .before .before .before .before .before .before) .put-number2 .ensures) refl refl in
+    let w = put w ((c .before .before .before .before .before .before .before .before .before .before) .put-number3 .last .0) 68 8 (length-digits 8 (f .«chain_id»)) ((c .before .before .before .before .before .before .before .before .before .before) .put-number3 .ensures) refl refl in
+    let w = put w ((c .before .before .before .before .before .before) .put-number4 .last .0) 76 8 (length-digits 8 (f .gas)) ((c .before .before .before .before .before .before) .put-number4 .ensures) refl refl in
+    let w = put w ((c .before .before) .put-number5 .last .0) 84 8 (length-digits 8 (f .ticket)) ((c .before .before) .put-number5 .ensures) refl refl in
+    alone (ended w refl (join fields) refl) ((c .before .before .before .before .before .before .before .before .before .before .before .before .before .before .before .before .before .before .before .before .before .before .before .before .before .before .before .before .before .before .before .before .before) .pre)
 
 pub write-frame-spec : {M : Type 1} → statement M
 write-frame-spec =

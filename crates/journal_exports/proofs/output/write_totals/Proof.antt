@@ -1,10 +1,11 @@
+use native.Mathlib.Omega.{arith}
 use mathlib.Core.Path.{refl}
 use mathlib.Core.List.{[], _∷_}
 use Rattle.lists.specs.Lists.{collect}
 use Rattle.wire.specs.Numbers.{digits}
 use Rattle.wire.proofs.NumberLaws.{length-digits}
 use Rattle.layout.specs.Layout.{join}
-use Rattle.journal_record.proofs.WriteLaws.{begun, put, ended}
+use Rattle.journal_writer.proofs.Filling.{begun, put, ended, alone}
 use borrow.Author.Needs.{needs}
 use Rattle.journal_exports.proofs.output.write_totals.Statement.{statement}
 use Rattle.journal_exports.proofs.output.write_totals.Tie as tie
@@ -32,13 +33,13 @@ unfolding collect join
 returns c =
     let a = (c .before .before .before .before .before .before .before .before .before .before .before .before .before .before .before .before .before .before .before .before .before) .args in
     let fields = digits 8 (a .pending) ∷ digits 8 (a .sums .skipped) ∷ digits 8 (a .sums .migrated) ∷ digits 8 (a .sums .degraded) ∷ digits 8 (a .end) ∷ [] in
-    let w = begun 40 fields (a .out .now) ((c .before .before .before .before .before .before .before .before .before .before .before .before .before .before .before .before .before .before .before .before .before) .pre) in
-    let w = put w ((c .before .before .before .before .before .before .before .before .before .before .before .before .before .before .before .before .before .before) .put-number .last .0) 8 (length-digits 8 (a .pending)) refl ((c .before .before .before .before .before .before .before .before .before .before .before .before .before .before .before .before .before .before) .put-number .ensures) in
-    let w = put w ((c .before .before .before .before .before .before .before .before .before .before .before .before .before .before) .put-number2 .last .0) 8 (length-digits 8 (a .sums .skipped)) refl ((c .before .before .before .before .before .before .before .before .before .before .before .before .before .before) .put-number2 .ensures) in
-    let w = put w ((c .before .before .before .before .before .before .before .before .before .before) .put-number3 .last .0) 8 (length-digits 8 (a .sums .migrated)) refl ((c .before .before .before .before .before .before .before .before .before .before) .put-number3 .ensures) in
-    let w = put w ((c .before .before .before .before .before .before) .put-number4 .last .0) 8 (length-digits 8 (a .sums .degraded)) refl ((c .before .before .before .before .before .before) .put-number4 .ensures) in
-    let w = put w ((c .before .before) .put-number5 .last .0) 8 (length-digits 8 (a .end)) refl ((c .before .before) .put-number5 .ensures) in
-    ended w
+    let w = begun (a .out .now) 0 40 fields (omega (arith, ((c .before .before .before .before .before .before .before .before .before .before .before .before .before .before .before .before .before .before .before .before .before) .pre))) in
+    let w = put w ((c .before .before .before .before .before .before .before .before .before .before .before .before .before .before .before .before .before .before) .put-number .last .0) 0 8 (length-digits 8 (a .pending)) ((c .before .before .before .before .before .before .before .before .before .before .before .before .before .before .before .before .before .before) .put-number .ensures) refl refl in
+    let w = put w ((c .before .before .before .before .before .before .before .before .before .before .before .before .before .before) .put-number2 .last .0) 8 8 (length-digits 8 (a .sums .skipped)) ((c .before .before .before .before .before .before .before .before .before .before .before .before .before .before) .put-number2 .ensures) refl refl in
+    let w = put w ((c .before .before .before .before .before .before .before .before .before .before) .put-number3 .last .0) 16 8 (length-digits 8 (a .sums .migrated)) ((c .before .before .before .before .before .before .before .before .before .before) .put-number3 .ensures) refl refl in
+    let w = put w ((c .before .before .before .before .before .before) .put-number4 .last .0) 24 8 (length-digits 8 (a .sums .degraded)) ((c .before .before .before .before .before .before) .put-number4 .ensures) refl refl in
+    let w = put w ((c .before .before) .put-number5 .last .0) 32 8 (length-digits 8 (a .end)) ((c .before .before) .put-number5 .ensures) refl refl in
+    alone (ended w refl (join fields) refl) ((c .before .before .before .before .before .before .before .before .before .before .before .before .before .before .before .before .before .before .before .before .before) .pre)
 
 pub write-totals-spec : {M : Type 1} → statement M
 write-totals-spec =
