@@ -1,4 +1,4 @@
-// The exported C functions: the fold of a journal and the restore of a frame, on byte slices.
+// The exported C functions: the fold of a journal, the restore of a frame and the writers of the records, on numbers and byte slices.
 ghost use mathlib.Core.Path.{_≡_};
 ghost use Rattle.journal_exports.specs.Export.{exported, exportedFrame};
 use gap_quarantine_journal::FoldOutcome;
@@ -6,7 +6,9 @@ use gap_quarantine_journal::RestoreAnswer;
 use journal_record::PARK_SIZE;
 use refusal::Refusal;
 
-mod output; // output.rt: what the exported functions write
+mod given; // given.rt: the arguments of the exported writers
+mod output; // output.rt: what the exported functions write and return
+pub mod writers; // writers.rt: the exported writers
 
 // Folds a journal. Returns 0, and writes the pending records to `out` and pending, skipped, migrated, degraded and end to
 // `totals`; or writes nothing, and returns a refusal's number + 256 × offset.

@@ -10,8 +10,11 @@ ghost use Rattle.store_rules.specs.View.{frameOf};
 ghost use Rattle.gap_quarantine_journal.specs.Fold.{output};
 ghost use Rattle.gap_quarantine_journal.specs.View.{parksSeen};
 ghost use Rattle.journal_exports.specs.Export.{frameBytes};
+ghost use Rattle.journal_exports.specs.Writers.{Short, codeOf};
+ghost use Rattle.journal_writer.specs.View.{answerSeen};
 use gap_quarantine_journal::PendingSet;
 use journal_record::PARK_SIZE;
+use journal_writer::WriteAnswer;
 use refusal::Refusal;
 use store_rules::ParkedFrame;
 use totals::Totals;
@@ -66,4 +69,15 @@ pub(crate) fn code_of(refusal: Refusal, at: usize) -> u64
 {
     let n = refusal::number(refusal);
     n + 256 * at as u64
+}
+
+// The length of a record that was written, 256 times, or a refusal's number.
+pub(crate) fn code_of_answer(answer: WriteAnswer) -> u64
+    requires { ⌜ Short (answerSeen answer) ⌝ }
+    ensures { λ r. ⌜ r ≡ codeOf (answerSeen answer) ⌝ }
+{
+    match answer {
+        WriteAnswer::Written(n) => 256 * n as u64,
+        WriteAnswer::Refused(x) => refusal::number(x),
+    }
 }
