@@ -1,14 +1,36 @@
-//! The proved fold of a quarantine journal and the restore of its records, with a safe interface.
+//! The proved fold of a quarantine journal, and the restore and the writers of its records, with a safe interface.
 //!
-//! [`fold`] reads a journal and writes the park records that are still pending; [`restore`] makes a [`Frame`] of each. Both
-//! answer a [`Refusal`] on any input that they do not take.
+//! A journal is made of five records: [`ParkRecord`], [`TentativeEntryRecord`], [`ResolveRecord`], [`LegacyParkRecord`] and
+//! [`OtherRecord`]. Each is written by its method `write`. [`fold`] reads a journal and writes the park records that are
+//! still pending; [`restore`] makes a [`Frame`] of each. All answer a [`Refusal`] on any input that they do not take.
 //!
 //! ```
-//! use gap_quarantine_journal::{fold, restore, Refusal, ENOUGH, PARK};
+//! use gap_quarantine_journal::{fold, restore, Fidelity, OtherRecord, ParkRecord, Refusal, ENOUGH, PARK};
+//!
+//! let text = format!("0x{}", "aa".repeat(32));
+//! let park = ParkRecord {
+//!     version: 2,
+//!     text: text.as_bytes(),
+//!     from: Some([1; 20]),
+//!     sender: None,
+//!     chain_id: 1,
+//!     gas: 21000,
+//!     wire: true,
+//!     list: true,
+//!     claimed_nonce: 8,
+//!     expected_nonce: 5,
+//!     parked_at: 0,
+//!     fidelity: Fidelity::Full,
+//!     tentative: None,
+//!     ticket: 3,
+//! };
+//! let mut journal = [0; 1000];
+//! let mut end = park.write(&mut journal)?;
+//! end += OtherRecord { ticket: 4 }.write(&mut journal[end..])?;
 //!
 //! let mut out = [0; ENOUGH];
-//! let totals = fold(b"QX\x05\0\0\0\0\0\0\0", &mut out)?;
-//! assert_eq!((totals.pending, totals.skipped, totals.end), (0, 1, 10));
+//! let totals = fold(&journal[..end], &mut out)?;
+//! assert_eq!((totals.pending, totals.skipped, totals.end), (1, 1, 250));
 //! for record in out.chunks(PARK).take(totals.pending) {
 //!     match restore(record) {
 //!         Ok(frame) => println!("ticket {}", frame.ticket),
@@ -24,12 +46,15 @@
 
 #![warn(missing_docs)]
 
+mod record;
 mod refusal;
+mod writers;
 
+pub use record::{
+    ConsumedKind, Fidelity, LegacyParkRecord, OtherRecord, ParkRecord, Resolution, ResolveRecord, TentativeEntryRecord,
+    TentativeRecord, LEGACY, OTHER, PARK, RESOLVE, TENTATIVE,
+};
 pub use refusal::Refusal;
-
-/// The length of a pending park record.
-pub const PARK: usize = 240;
 
 /// An output that is never too short: 64 records.
 pub const ENOUGH: usize = 64 * PARK;

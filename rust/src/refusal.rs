@@ -1,9 +1,10 @@
 use std::error::Error;
 use std::fmt;
 
-/// Why [`fold`](crate::fold) or [`restore`](crate::restore) was refused. Nothing was written.
+/// Why [`fold`](crate::fold), [`restore`](crate::restore) or the writing of a record was refused. Nothing was written.
 ///
-/// An offset is a place in the journal, in bytes. A fold always has one; a restore, which sees a single record, has none.
+/// An offset is a place in the journal, in bytes. A fold always has one; a restore and a writer, which see a single record,
+/// have none.
 #[derive(Debug, Clone, Copy, PartialEq, Eq, Hash)]
 #[non_exhaustive]
 pub enum Refusal {
@@ -17,8 +18,8 @@ pub enum Refusal {
         /// The record's first byte.
         offset: usize,
     },
-    /// 11, of a fold: a field is outside its layout, or a version is above 2. Of a restore: the bytes are not one park record
-    /// in its layout.
+    /// 11, of a fold or a writer: a field is outside its layout, or a version is above 2. Of a restore: the bytes are not one
+    /// park record in its layout.
     BadRecord {
         /// Of a fold, the record's first byte.
         offset: Option<usize>,
@@ -28,10 +29,11 @@ pub enum Refusal {
         /// The first byte of the record that has the key.
         offset: usize,
     },
-    /// 13, of a fold: the output is shorter than [`PARK`](crate::PARK) bytes for each pending record.
+    /// 13, of a fold: the output is shorter than [`PARK`](crate::PARK) bytes for each pending record. Of a writer: it is
+    /// shorter than the record.
     ShortOutput {
-        /// Where the records that were read end.
-        offset: usize,
+        /// Of a fold, where the records that were read end.
+        offset: Option<usize>,
     },
     /// 14, of a restore: the record's text does not parse. After at most one `0x` it is not 64 hex digits.
     BadHashText,
@@ -56,14 +58,13 @@ impl Refusal {
         }
     }
 
-    /// The place in the journal, where there is one: of every refusal of a fold, and of none of a restore.
+    /// The place in the journal, where there is one: of every refusal of a fold, and of no other.
     pub fn offset(self) -> Option<usize> {
         match self {
-            Refusal::LongJournal { offset }
-            | Refusal::UnknownMark { offset }
-            | Refusal::PendingFull { offset }
-            | Refusal::ShortOutput { offset } => Some(offset),
-            Refusal::BadRecord { offset } => offset,
+            Refusal::LongJournal { offset } | Refusal::UnknownMark { offset } | Refusal::PendingFull { offset } => {
+                Some(offset)
+            }
+            Refusal::BadRecord { offset } | Refusal::ShortOutput { offset } => offset,
             Refusal::BadHashText | Refusal::NoSender | Refusal::NoWire => None,
         }
     }
@@ -73,7 +74,7 @@ impl Refusal {
             Refusal::LongJournal { .. } => "journal over 65,536 bytes",
             Refusal::UnknownMark { .. } => "unknown mark",
             Refusal::BadRecord { offset: Some(_) } => "field outside its layout or version above 2",
-            Refusal::BadRecord { offset: None } => "not one park record in its layout",
+            Refusal::BadRecord { offset: None } => "not one record in its layout",
             Refusal::PendingFull { .. } => "a 65th key",
             Refusal::ShortOutput { .. } => "output too short",
             Refusal::BadHashText => "hash text that does not parse",
@@ -90,7 +91,7 @@ impl Refusal {
             10 => Refusal::UnknownMark { offset },
             11 => Refusal::BadRecord { offset: Some(offset) },
             12 => Refusal::PendingFull { offset },
-            13 => Refusal::ShortOutput { offset },
+            13 => Refusal::ShortOutput { offset: Some(offset) },
             _ => panic!("gap_quarantine_fold returned {code}, which its contract rules out"),
         }
     }
@@ -103,6 +104,15 @@ impl Refusal {
             15 => Refusal::NoSender,
             16 => Refusal::NoWire,
             _ => panic!("gap_quarantine_restore returned {code}, which its contract rules out"),
+        }
+    }
+
+    /// The refusal that a writer returned as its number.
+    pub(crate) fn of_write(code: u64) -> Refusal {
+        match code {
+            11 => Refusal::BadRecord { offset: None },
+            13 => Refusal::ShortOutput { offset: None },
+            _ => panic!("a writer returned {code}, which its contract rules out"),
         }
     }
 }
@@ -143,6 +153,14 @@ mod tests {
         }
     }
 
+    #[test]
+    fn write_codes_keep_number() {
+        for number in [11, 13] {
+            let refusal = Refusal::of_write(number);
+            assert_eq!((u64::from(refusal.number()), refusal.offset()), (number, None));
+        }
+    }
+
     fn panic_of(call: impl FnOnce() -> Refusal + UnwindSafe) -> String {
         *catch_unwind(call).expect_err("a panic").downcast().expect("a message")
     }
@@ -156,6 +174,10 @@ mod tests {
         for code in (0..300).filter(|code| ![11, 14, 15, 16].contains(code)) {
             let message = format!("gap_quarantine_restore returned {code}, which its contract rules out");
             assert_eq!(panic_of(move || Refusal::of_restore(code)), message);
+        }
+        for code in (0..300).filter(|code| ![11, 13].contains(code)) {
+            let message = format!("a writer returned {code}, which its contract rules out");
+            assert_eq!(panic_of(move || Refusal::of_write(code)), message);
         }
     }
 }

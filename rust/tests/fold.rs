@@ -96,7 +96,7 @@ fn a_65th_key() {
 fn output_too_short() {
     let journal = park(&canonical(0xaa), 2);
     let mut out = [7; 239];
-    assert_eq!(fold(&journal, &mut out), Err(Refusal::ShortOutput { offset: 240 }));
+    assert_eq!(fold(&journal, &mut out), Err(Refusal::ShortOutput { offset: Some(240) }));
     assert!(out.iter().all(|b| *b == 7));
 }
 
