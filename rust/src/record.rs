@@ -123,8 +123,8 @@ pub struct ResolveRecord {
 }
 
 /// QL: a frame was parked, by a line of an older form. Of what a line may have in several places, the fold takes the first
-/// that is there.
-#[derive(Debug, Clone, Copy, PartialEq, Eq, Hash)]
+/// that is there. By default all is absent.
+#[derive(Debug, Clone, Copy, PartialEq, Eq, Hash, Default)]
 pub struct LegacyParkRecord {
     /// The hash that the line's frame has, if it parses.
     pub frame_hash: Option<[u8; 32]>,

@@ -18,8 +18,8 @@ pub enum Refusal {
         /// The record's first byte.
         offset: usize,
     },
-    /// 11, of a fold or a writer: a field is outside its layout, or a version is above 2. Of a restore: the bytes are not one
-    /// park record in its layout.
+    /// 11, of a fold or a writer: a field is outside its layout, or a version is above 2. Of a restore: the bytes are not
+    /// one park record in its layout.
     BadRecord {
         /// Of a fold, the record's first byte.
         offset: Option<usize>,

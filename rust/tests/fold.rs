@@ -2,46 +2,35 @@
 
 mod records;
 
-use gap_quarantine_journal::{fold, Refusal, Totals, ENOUGH};
-use records::{canonical, park, tagged};
+use gap_quarantine_journal::{
+    fold, ConsumedKind, LegacyParkRecord, OtherRecord, ParkRecord, Refusal, Resolution, ResolveRecord, TentativeEntryRecord,
+    TentativeRecord, Totals, ENOUGH,
+};
+use records::{canonical, park, Layout};
+
+fn sound(hash: u8) -> Vec<u8> {
+    park(&canonical([hash; 32])).bytes()
+}
+
+fn of_version(version: u32) -> Vec<u8> {
+    ParkRecord { version, ..park(&canonical([0xaa; 32])) }.bytes()
+}
 
 fn enter(hash: u8) -> Vec<u8> {
-    let mut r = b"QT".to_vec();
-    r.extend(2u32.to_le_bytes());
-    r.extend([hash; 32]);
-    r.push(1);
-    r.extend(100u64.to_le_bytes());
-    r.extend([9; 32]);
-    r.extend(tagged(None, 32));
-    r.extend(0u64.to_le_bytes());
-    assert_eq!(r.len(), 120);
-    r
+    let consumed = TentativeRecord { kind: ConsumedKind::Mined, block: 100, block_hash: [9; 32], by: None };
+    TentativeEntryRecord { version: 2, hash: [hash; 32], consumed, entered_at: 0 }.bytes()
 }
 
 fn resolve(hash: u8) -> Vec<u8> {
-    let mut r = b"QR".to_vec();
-    r.extend(2u32.to_le_bytes());
-    r.extend([hash; 32]);
-    r.push(1);
-    r.extend(0u64.to_le_bytes());
-    assert_eq!(r.len(), 47);
-    r
+    ResolveRecord { version: 2, hash: [hash; 32], resolution: Resolution::MinedFinalized, resolved_at: 0 }.bytes()
 }
 
 fn legacy(hash: u8) -> Vec<u8> {
-    let mut r = b"QL".to_vec();
-    r.extend(tagged(Some(&[hash; 32]), 32));
-    r.extend(tagged(None, 32));
-    r.extend([0; 18]);
-    r.extend(tagged(Some(&8u64.to_le_bytes()), 8));
-    r.resize(256, 0);
-    r
+    LegacyParkRecord { frame_hash: Some([hash; 32]), top_nonce: Some(8), ..LegacyParkRecord::default() }.bytes()
 }
 
 fn other() -> Vec<u8> {
-    let mut r = b"QX".to_vec();
-    r.extend(5u64.to_le_bytes());
-    r
+    OtherRecord { ticket: 5 }.bytes()
 }
 
 fn folded(journal: &[u8]) -> Result<Totals, Refusal> {
@@ -55,11 +44,11 @@ fn empty() {
 
 #[test]
 fn output_is_the_records() {
-    let journal = [park(&canonical(0xaa), 0), other()].concat();
+    let journal = [of_version(0), other()].concat();
     let mut out = [7; 500];
     let totals = fold(&journal, &mut out).unwrap();
     assert_eq!((totals.pending, totals.skipped, totals.end), (1, 1, 250));
-    assert_eq!(out[..240], park(&canonical(0xaa), 2)[..]);
+    assert_eq!(out[..240], sound(0xaa)[..]);
     assert!(out[240..].iter().all(|b| *b == 7));
 }
 
@@ -75,7 +64,7 @@ fn unknown_mark() {
 
 #[test]
 fn version_above_2() {
-    assert_eq!(folded(&[other(), park(&canonical(0xaa), 3)].concat()), Err(Refusal::BadRecord { offset: Some(10) }));
+    assert_eq!(folded(&[other(), of_version(3)].concat()), Err(Refusal::BadRecord { offset: Some(10) }));
 }
 
 #[test]
@@ -87,14 +76,14 @@ fn field_outside_its_layout() {
 
 #[test]
 fn a_65th_key() {
-    let parks: Vec<Vec<u8>> = (0..65).map(|n| park(&canonical(n), 2)).collect();
+    let parks: Vec<Vec<u8>> = (0..65).map(sound).collect();
     assert_eq!(folded(&parks.concat()), Err(Refusal::PendingFull { offset: 64 * 240 }));
     assert_eq!(folded(&parks[..64].concat()).unwrap().pending, 64);
 }
 
 #[test]
 fn output_too_short() {
-    let journal = park(&canonical(0xaa), 2);
+    let journal = sound(0xaa);
     let mut out = [7; 239];
     assert_eq!(fold(&journal, &mut out), Err(Refusal::ShortOutput { offset: Some(240) }));
     assert!(out.iter().all(|b| *b == 7));
@@ -103,7 +92,7 @@ fn output_too_short() {
 /// The fold of a journal cut anywhere is that of the records whole before the cut.
 #[test]
 fn cut_at_every_byte() {
-    let records = [park(&canonical(0xaa), 2), park(&canonical(0xbb), 2), enter(0xaa), resolve(0xbb), legacy(0xcc), other()];
+    let records = [sound(0xaa), sound(0xbb), enter(0xaa), resolve(0xbb), legacy(0xcc), other()];
     let journal = records.concat();
     for cut in 0..=journal.len() {
         let mut whole = 0;

@@ -3,7 +3,7 @@
 mod records;
 
 use gap_quarantine_journal::{restore, Frame, Refusal};
-use records::{canonical, park};
+use records::{canonical, park, Layout};
 
 // where a park record has its fields
 const VERSION: usize = 2;
@@ -13,7 +13,7 @@ const WIRE: usize = 131;
 const FIDELITY: usize = 157;
 
 fn full() -> Vec<u8> {
-    park(&canonical(0xaa), 2)
+    park(&canonical([0xaa; 32])).bytes()
 }
 
 fn degraded() -> Vec<u8> {
@@ -63,7 +63,7 @@ fn not_one_park_in_its_layout() {
 
 #[test]
 fn a_text_that_does_not_parse() {
-    assert_eq!(restore(&park(b"0x", 2)), Err(Refusal::BadHashText));
+    assert_eq!(restore(&park(b"0x").bytes()), Err(Refusal::BadHashText));
 }
 
 #[test]
@@ -86,7 +86,7 @@ extern "C" {
 /// 13, which a caller of the safe function does not meet, comes after the record's own refusals and writes nothing.
 #[test]
 fn a_slice_that_is_not_92_bytes() {
-    for (record, code) in [(full(), 13), (park(b"0x", 2), 14)] {
+    for (record, code) in [(full(), 13), (park(b"0x").bytes(), 14)] {
         for length in [0, 91, 93] {
             let mut frame = vec![7; length];
             // The slices are valid for their lengths and do not overlap.
