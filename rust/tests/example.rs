@@ -1,24 +1,33 @@
-//! What the example `fold` prints, and its status: `example.stdout` for the journal of the program `fold`, and its messages.
+//! What the examples print, and their status: `fold.stdout` of the journal of the program `fold`, `write.stdout`, and the
+//! messages of the example `fold`.
 
 use std::process::{Command, Output};
 
-fn example(words: &[&str]) -> Output {
+fn example(name: &str, words: &[&str]) -> Output {
     let mut cargo = Command::new(env!("CARGO"));
-    cargo.current_dir(env!("CARGO_MANIFEST_DIR")).args(["run", "--quiet", "--example", "fold", "--"]).args(words);
+    cargo.current_dir(env!("CARGO_MANIFEST_DIR")).args(["run", "--quiet", "--example", name, "--"]).args(words);
     cargo.output().expect("cargo runs")
 }
 
+fn assert_printed(output: Output, lines: &str) {
+    assert_eq!(String::from_utf8_lossy(&output.stdout), lines);
+    assert_eq!((output.stderr.len(), output.status.code()), (0, Some(0)));
+}
+
 fn assert_message(words: &[&str], message: &str, status: i32) {
-    let output = example(words);
+    let output = example("fold", words);
     assert_eq!(String::from_utf8_lossy(&output.stderr), message);
     assert_eq!((output.stdout.len(), output.status.code()), (0, Some(status)));
 }
 
 #[test]
 fn totals_and_a_line_for_each_record() {
-    let output = example(&["../crates/fold/stdin"]);
-    assert_eq!(String::from_utf8_lossy(&output.stdout), include_str!("example.stdout"));
-    assert_eq!((output.stderr.len(), output.status.code()), (0, Some(0)));
+    assert_printed(example("fold", &["../crates/fold/stdin"]), include_str!("fold.stdout"));
+}
+
+#[test]
+fn a_journal_written_and_folded() {
+    assert_printed(example("write", &[]), include_str!("write.stdout"));
 }
 
 #[test]
