@@ -2,11 +2,10 @@
 //!
 //! freeze FOLDER: writes FOLDER/scripts/stdin, FOLDER/scripts/stdout, FOLDER/journals/stdin and FOLDER/journals/stdout.
 //! The sample has document 01's examples, the scripts that the manual shows, a smallest input for each wrong rule, inputs at each limit, and random ones.
-use beside::hex::hex;
+use beside::journal::items::Item;
 use beside::journal::original::Original as Journal;
-use beside::journal::outcome::{line, with_room, Restored, Room, ENOUGH, JOURNAL_LIMIT, TOTALS_SIZE};
+use beside::journal::outcome::{Restored, ENOUGH, JOURNAL_LIMIT};
 use beside::journal::records::{Record, PARK_SIZE};
-use beside::journal::strength::Smallest;
 use beside::journal::wrong::Wrong;
 use beside::journal::{self, strength as journals};
 use beside::scratch::Scratch;
@@ -16,7 +15,6 @@ use beside::store::original::Original as Store;
 use beside::store::script::{led, Script};
 use beside::store::{self, strength as stores};
 use std::collections::BTreeSet;
-use std::fmt::Write;
 use std::fs;
 use std::path::Path;
 
@@ -97,65 +95,6 @@ fn freeze_scripts(folder: &Path) {
 
 // ---- journals
 
-/// What the journals' input is made of.
-#[derive(PartialEq)]
-enum Item {
-    /// A journal, and how many bytes are lent to its fold.
-    Journal(Vec<u8>, usize),
-    /// One record to restore.
-    Park(Vec<u8>),
-}
-
-impl Item {
-    fn bytes(&self) -> Vec<u8> {
-        let (kind, bytes) = match self {
-            Item::Journal(bytes, _) => (0, bytes),
-            Item::Park(bytes) => (1, bytes),
-        };
-        let mut out = vec![kind];
-        out.extend((bytes.len() as u32).to_le_bytes());
-        if let Item::Journal(_, room) = self {
-            out.extend((*room as u16).to_le_bytes());
-        }
-        out.extend(bytes);
-        out
-    }
-
-    fn lines(&self, number: usize, original: &Journal) -> String {
-        let head = format!("== {number}\n");
-        match self {
-            Item::Journal(bytes, room) => head + &journal_lines(number, bytes, *room, original),
-            Item::Park(bytes) => head + &restore_line(&original.restore(bytes, number as u64)),
-        }
-    }
-}
-
-/// The fold's line, then for each pending record its bytes and what restore answers.
-fn journal_lines(number: usize, bytes: &[u8], room: usize, original: &Journal) -> String {
-    let (fold, restored) = original.fold(bytes, number as u64);
-    let fold = with_room(fold, Room { out: room, totals: TOTALS_SIZE });
-    let mut text = line(&fold) + "\n";
-    let pending = fold.map_or(Vec::new(), |f| f.pending);
-    for (record, restored) in pending.iter().zip(&restored) {
-        text += &(hex(record) + "\n");
-        text += &restore_line(restored);
-    }
-    text
-}
-
-fn restore_line(restored: &Restored) -> String {
-    match restored {
-        Err(number) => format!("restore refused {number}\n"),
-        Ok(bytes) => {
-            let mut text = format!("restore {} {}", hex(&bytes[..32]), hex(&bytes[32..52]));
-            for n in bytes[52..].chunks(8) {
-                write!(text, " {}", u64::from_le_bytes(n.try_into().expect("8 bytes"))).expect("a string takes all");
-            }
-            text + "\n"
-        }
-    }
-}
-
 /// A random journal that passes a test.
 fn found(test: impl Fn(&Vec<u8>) -> bool) -> Vec<u8> {
     (SEED..).map(journal::generate::journal).find(test).expect("the seeds do not end")
@@ -180,16 +119,10 @@ fn telling(original: &Journal) -> Vec<Item> {
     let mut list: Vec<Item> = Vec::new();
     let mut untold = Vec::new();
     for (wrong, _) in journal::wrong::ALL {
-        let item = match journals::smallest_for(*wrong, &cases, original) {
-            Some(Smallest::Journal(bytes, room)) => Item::Journal(bytes, room.min(ENOUGH)),
-            Some(Smallest::Park(bytes)) => Item::Park(bytes),
-            None => {
-                untold.push(*wrong);
-                continue;
-            }
-        };
-        if !list.contains(&item) {
-            list.push(item);
+        match journals::smallest_for(*wrong, &cases, original) {
+            Some(item) if list.contains(&item) => {}
+            Some(item) => list.push(item),
+            None => untold.push(*wrong),
         }
     }
     assert_eq!(untold, LENGTHS_ONLY, "what the program cannot be told by");

@@ -4,6 +4,7 @@ pub mod case;
 pub mod compare;
 pub mod examples;
 pub mod generate;
+pub mod items;
 pub mod layout;
 pub mod lines;
 pub mod model;

@@ -3,9 +3,10 @@
 use super::brief::{say_parts, shown};
 use super::case::{Case, Restore};
 use super::generate::{journal, parts};
+use super::items::Item;
 use super::model::Model;
 use super::original::Original;
-use super::outcome::{line, with_room, Fold, Room, AMPLE, FRAME_SIZE, TOTALS_SIZE};
+use super::outcome::{line, with_room, Fold, Room, AMPLE, ENOUGH, FRAME_SIZE, TOTALS_SIZE};
 use super::wrong::Wrong;
 use crate::hex::hex;
 use crate::shrink::shrink;
@@ -86,24 +87,16 @@ pub fn catches(wrong: Wrong, says: &str, cases: &[Case], original: &Original) ->
     true
 }
 
-/// An input that tells a wrong rule from the Rust.
-pub enum Smallest {
-    /// A journal, and how many bytes are lent to its fold.
-    Journal(Vec<u8>, usize),
-    /// One record to restore.
-    Park(Vec<u8>),
-}
-
-/// A smallest input, from these journals, that tells a wrong rule from the Rust where the second slice of a fold and the slice
-/// of a restore are as long as they should be.
-pub fn smallest_for(wrong: Wrong, cases: &[Case], original: &Original) -> Option<Smallest> {
+/// A smallest item, from these journals, that tells a wrong rule from the Rust where the second slice of a fold and the slice of
+/// a restore are as long as they should be. No item is lent more than what is enough for every fold.
+pub fn smallest_for(wrong: Wrong, cases: &[Case], original: &Original) -> Option<Item> {
     let model = Model::with(wrong);
     cases.iter().find_map(|case| match telling(case, &model)? {
         Telling::Fold(room) if room.totals == TOTALS_SIZE => {
             let parts = smallest(case, room, original, |bytes| model.fold_into(bytes, room));
-            Some(Smallest::Journal(parts.concat(), room.out))
+            Some(Item::Journal(parts.concat(), room.out.min(ENOUGH)))
         }
-        Telling::Restore(x) if x.length == FRAME_SIZE => Some(Smallest::Park(x.record.clone())),
+        Telling::Restore(x) if x.length == FRAME_SIZE => Some(Item::Park(x.record.clone())),
         _ => None,
     })
 }
