@@ -1,11 +1,13 @@
 //! Holds our store and journal beside the published Rust: document 01's examples, random scripts, all short runs, the order
-//! rule, slices of all lengths, random journals, cuts, restores, and wrong rules. The last line has the counts and the number of
-//! differences. A run fails by a difference, by a wrong rule that was not caught, and by a kind of answer that was not seen.
+//! rule, slices of all lengths, random journals, cuts, restores, records written, and wrong rules. The last line has the counts
+//! and the number of differences. A run fails by a difference, by a wrong rule that was not caught, and by a kind of answer that
+//! was not seen.
 //!
-//! compare [--replay PROGRAM] [--short-slices PROGRAM] [--calls N] [--orders N] [--journals N] [--seed N]
+//! compare [--replay PROGRAM] [--short-slices PROGRAM] [--calls N] [--orders N] [--journals N] [--records N] [--seed N]
 use beside::intended;
 use beside::journal::original::Original;
 use beside::journal::ours::{ours, Ours};
+use beside::journal::writing::{compare as writers, strength as writer_strength, wrong as writer_wrong};
 use beside::journal::{compare as journals, strength as journal_strength, wrong as journal_wrong};
 use beside::scratch::Scratch;
 use beside::seen::{self, Seen};
@@ -15,9 +17,10 @@ use beside::store::{compare as stores, order, slices, strength as store_strength
 use std::path::Path;
 use std::process::ExitCode;
 
-/// How many random scripts, and how many journals, a wrong rule is looked for in.
+/// How many random scripts, how many journals, and how many values to write, a wrong rule is looked for in.
 const SCRIPTS_FOR_WRONG: u64 = 3000;
 const JOURNALS_FOR_WRONG: u64 = 6000;
+const VALUES_FOR_WRONG: u64 = 20_000;
 
 /// How many journals are cut at every byte.
 const JOURNALS_CUT: u64 = 200;
@@ -26,14 +29,22 @@ struct Sizes {
     calls: usize,
     orders: u64,
     journals: u64,
+    records: u64,
     seed: u64,
     replay: Option<String>,
     short_slices: Option<String>,
 }
 
 fn sizes() -> Sizes {
-    let (replay, short_slices) = (None, None);
-    let mut sizes = Sizes { calls: 1_200_000, orders: 100_000, journals: 100_000, seed: 0, replay, short_slices };
+    let mut sizes = Sizes {
+        calls: 1_200_000,
+        orders: 100_000,
+        journals: 100_000,
+        records: 100_000,
+        seed: 0,
+        replay: None,
+        short_slices: None,
+    };
     let mut words = std::env::args().skip(1);
     while let Some(word) = words.next() {
         let value = words.next().unwrap_or_else(|| panic!("{word} needs a value"));
@@ -44,6 +55,7 @@ fn sizes() -> Sizes {
             "--calls" => sizes.calls = number() as usize,
             "--orders" => sizes.orders = number(),
             "--journals" => sizes.journals = number(),
+            "--records" => sizes.records = number(),
             "--seed" => sizes.seed = number(),
             _ => panic!("unknown word {word}"),
         }
@@ -138,6 +150,17 @@ impl Run<'_> {
         self.counts.push(format!("{} journals, {} restores, {cuts} cuts", random.journals, random.restores));
     }
 
+    /// Our functions write records where they are linked; without them, the comparison's own writer and reader are still run.
+    fn records(&mut self) {
+        let random = writers::random(self.sizes.seed, self.sizes.records, self.linked);
+        println!("records, random: {random}");
+        self.differences += random.unread + random.ours;
+        self.seen.add(&random.seen);
+        if self.linked.is_some() {
+            self.counts.push(format!("{} values to write, {} records written", random.values, random.written));
+        }
+    }
+
     /// Says whether every wrong rule was caught.
     fn strength(&mut self) -> bool {
         let seed = self.sizes.seed;
@@ -150,13 +173,19 @@ impl Run<'_> {
         let answers = journal_strength::answered(seed, JOURNALS_FOR_WRONG, self.original);
         let in_journal =
             journal.iter().filter(|(w, says)| journal_strength::catches(*w, says, &answers, self.original)).count();
-        self.counts.push(format!("wrong rules caught {in_store} of {} and {in_journal} of {}", store.len(), journal.len()));
-        in_store == store.len() && in_journal == journal.len()
+        println!("wrong rules for the writers:");
+        let writer = writer_wrong::ALL;
+        let cases = writer_strength::cases(seed, VALUES_FOR_WRONG);
+        let in_writer = writer.iter().filter(|(w, says)| writer_strength::catches(*w, says, &cases)).count();
+        let caught = [(in_store, store.len()), (in_journal, journal.len()), (in_writer, writer.len())];
+        let says = caught.map(|(caught, all)| format!("{caught} of {all}"));
+        self.counts.push(format!("wrong rules caught {}", says.join(" and ")));
+        caught.iter().all(|(caught, all)| caught == all)
     }
 
     /// Says whether every kind of answer was seen.
     fn seen(&mut self) -> bool {
-        println!("refusals and kinds of answers, seen in the Rust's answers and in the driver's refusals:");
+        println!("refusals and kinds of answers, seen in the Rust's answers and in the driver's refusals and records:");
         let (seen, all) = (self.seen.table(), seen::ALL.len());
         self.counts.push(format!("kinds of answers seen {seen} of {all}"));
         seen == all
@@ -166,7 +195,7 @@ impl Run<'_> {
     fn sides(&self) -> String {
         let replay = (self.replay.is_some(), "replay");
         let slices = (self.sizes.short_slices.is_some(), "short_slices");
-        let linked = (self.linked.is_some(), "the C functions of fold and restore");
+        let linked = (self.linked.is_some(), "the C functions of fold, restore and writing");
         let named = |wanted: bool| {
             let of = [replay, slices, linked].into_iter().filter(|(given, _)| *given == wanted).map(|(_, name)| name);
             of.collect::<Vec<&str>>().join(", ")
@@ -200,6 +229,7 @@ fn main() -> ExitCode {
     run.slices();
     run.orders();
     run.journal();
+    run.records();
     let caught = run.strength();
     let seen = run.seen();
     println!("{}: {}; {} differences", run.sides(), run.counts.join(", "), run.differences);

@@ -1,7 +1,8 @@
-//! Records and answers in few words, for a reader.
+//! Records, values and answers in few words, for a reader.
 use super::layout::{read, Reading};
 use super::outcome::Restored;
 use super::records::Record;
+use super::writing::value::{NumberValue, TentativeValue, Value};
 use crate::hex::hex;
 
 /// A record with its hashes and addresses cut to a byte.
@@ -26,6 +27,30 @@ fn brief(record: &Record) -> String {
             u8::from(l.tentative.is_some()),
         ),
         Record::Other(_) => "QX".to_string(),
+    }
+}
+
+/// A value with each hash, address and text cut to its first byte and its length.
+pub fn brief_value(value: &Value) -> String {
+    let cut = |b: &[u8]| b.first().map_or("-".to_string(), |first| format!("{first:02x}..({})", b.len()));
+    let number = |n: NumberValue| format!("{}:{}", n.has, n.number);
+    let tentative =
+        |t: &TentativeValue| format!("kind {} block {} hash {} by {}", t.kind, t.block, cut(&t.hash), cut(&t.by));
+    match value {
+        Value::Park(p) => format!(
+            "QP v{} text {} from {} sender {} chain_id {} gas {} wire {} list {} claimed {} expected {} fidelity {} {}",
+            p.version, cut(&p.text), cut(&p.from), cut(&p.sender), p.chain_id, p.gas, p.wire, p.list, p.claimed, p.expected,
+            p.fidelity, tentative(&p.tentative),
+        ),
+        Value::Entry(t) => format!("QT v{} hash {} {}", t.version, cut(&t.hash), tentative(&t.consumed)),
+        Value::Resolve(x) => format!("QR v{} hash {} resolution {}", x.version, cut(&x.hash), x.resolution),
+        Value::Legacy(l) => format!(
+            "QL frame hash {} top hash {} claimed {} frame nonce {} top nonce {} sender {} from {} expected {} parked_at {} chain_id {} gas {} rest {} {}",
+            cut(&l.frame_hash), cut(&l.top_hash), number(l.claimed), number(l.frame_nonce), number(l.top_nonce), cut(&l.sender),
+            cut(&l.from), number(l.expected), number(l.parked_at), number(l.chain_id), number(l.gas), l.rest,
+            tentative(&l.tentative),
+        ),
+        Value::Other(ticket) => format!("QX ticket {ticket}"),
     }
 }
 

@@ -35,7 +35,8 @@ impl fmt::Display for Counts {
     }
 }
 
-fn call_fold(ours: &dyn Ours, journal: &[u8], room: Room) -> Written {
+/// What our fold returns and writes on slices of these lengths.
+pub fn call_fold(ours: &dyn Ours, journal: &[u8], room: Room) -> Written {
     let mut w = Written { code: 0, out: vec![FILL; room.out], totals: vec![FILL; room.totals] };
     w.code = ours.fold(journal, &mut w.out, &mut w.totals);
     w

@@ -8,6 +8,8 @@ use crate::random::Random;
 
 mod spoil;
 
+pub use spoil::tagged;
+
 struct Maker {
     r: Random,
     hashes: Vec<Hash>,

@@ -1,4 +1,4 @@
-//! The journal: records, the Rust, a model of document 01, our C functions, and where their inputs come from.
+//! The journal: records and their writers, the Rust, a model of document 01, our C functions, and where their inputs come from.
 mod brief;
 pub mod case;
 pub mod compare;
@@ -14,4 +14,7 @@ pub mod outcome;
 pub mod records;
 mod refusals;
 pub mod strength;
+#[cfg(fold_linked)]
+mod writers;
+pub mod writing;
 pub mod wrong;

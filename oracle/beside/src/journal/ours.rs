@@ -1,13 +1,18 @@
 //! Our side of the journal: the C functions of the static library, if one is linked.
+use super::writing::value::Value;
 
-/// A side that folds and restores as the C functions do, on lent slices.
+/// A side that folds, restores and writes as the C functions do, on lent slices.
 pub trait Ours {
     fn fold(&self, journal: &[u8], out: &mut [u8], totals: &mut [u8]) -> u64;
     fn restore(&self, record: &[u8], frame: &mut [u8]) -> u64;
+    fn write(&self, value: &Value, out: &mut [u8]) -> u64;
 }
 
 #[cfg(fold_linked)]
 mod linked {
+    use crate::journal::writers::write;
+    use crate::journal::writing::value::Value;
+
     extern "C" {
         fn gap_quarantine_fold(
             journal: *const u8,
@@ -41,6 +46,10 @@ mod linked {
         fn restore(&self, record: &[u8], frame: &mut [u8]) -> u64 {
             // The slices are valid for their lengths, do not overlap, and the function keeps no pointer.
             unsafe { gap_quarantine_restore(record.as_ptr(), record.len(), frame.as_mut_ptr(), frame.len()) }
+        }
+
+        fn write(&self, value: &Value, out: &mut [u8]) -> u64 {
+            write(value, out)
         }
     }
 }

@@ -1,9 +1,10 @@
-//! The kinds that a fold and a restore meet.
+//! The kinds that a fold, a restore and a writer meet.
 use super::{Kind, Seen};
 use crate::hex::hex;
 use crate::journal::layout::{read, Reading};
 use crate::journal::outcome::{Fold, Folded};
 use crate::journal::records::{Hash, Legacy, Record};
+use crate::journal::writing::value::Value;
 use std::collections::BTreeSet;
 
 /// Notes what the Rust answers to a journal, with the slices that were lent.
@@ -68,5 +69,26 @@ pub fn see_restore(seen: &mut Seen, code: u64, degraded: bool) {
         15 => Kind::Restore15,
         16 => Kind::Restore16,
         _ => panic!("no record is refused {code}"),
+    });
+}
+
+/// Notes what the writer of a value is to return.
+pub fn see_write(seen: &mut Seen, value: &Value, code: u64) {
+    seen.see(match (value, code) {
+        (Value::Park(_), 11) => Kind::ParkWriter11,
+        (Value::Park(_), 13) => Kind::ParkWriter13,
+        (Value::Park(_), _) => Kind::ParkWritten,
+        (Value::Entry(_), 11) => Kind::EntryWriter11,
+        (Value::Entry(_), 13) => Kind::EntryWriter13,
+        (Value::Entry(_), _) => Kind::EntryWritten,
+        (Value::Resolve(_), 11) => Kind::ResolveWriter11,
+        (Value::Resolve(_), 13) => Kind::ResolveWriter13,
+        (Value::Resolve(_), _) => Kind::ResolveWritten,
+        (Value::Legacy(_), 11) => Kind::LegacyWriter11,
+        (Value::Legacy(_), 13) => Kind::LegacyWriter13,
+        (Value::Legacy(_), _) => Kind::LegacyWritten,
+        (Value::Other(_), 11) => panic!("no QX is refused 11"),
+        (Value::Other(_), 13) => Kind::OtherWriter13,
+        (Value::Other(_), _) => Kind::OtherWritten,
     });
 }

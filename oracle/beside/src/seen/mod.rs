@@ -1,9 +1,9 @@
-//! What a run has met: each refusal and each kind of answer, counted from the Rust's own answers. A kind that a run did not
-//! meet fails it.
+//! What a run has met: each refusal and each kind of answer, counted from the Rust's own answers, and for the writers of records
+//! from the comparison's own. A kind that a run did not meet fails it.
 mod journal;
 mod store;
 
-pub use journal::{see_fold, see_restore};
+pub use journal::{see_fold, see_restore, see_write};
 use std::collections::BTreeMap;
 pub use store::see_call;
 
@@ -91,6 +91,20 @@ sayings! { Kind {
     Restore16: "restore refused 16",
     RestoreFull: "restore: full",
     RestoreDegraded: "restore: degraded",
+    ParkWritten: "writer of QP: a record",
+    ParkWriter11: "writer of QP refused 11",
+    ParkWriter13: "writer of QP refused 13",
+    EntryWritten: "writer of QT: a record",
+    EntryWriter11: "writer of QT refused 11",
+    EntryWriter13: "writer of QT refused 13",
+    ResolveWritten: "writer of QR: a record",
+    ResolveWriter11: "writer of QR refused 11",
+    ResolveWriter13: "writer of QR refused 13",
+    LegacyWritten: "writer of QL: a record",
+    LegacyWriter11: "writer of QL refused 11",
+    LegacyWriter13: "writer of QL refused 13",
+    OtherWritten: "writer of QX: a record",
+    OtherWriter13: "writer of QX refused 13",
 }}
 
 /// How often each kind was met.

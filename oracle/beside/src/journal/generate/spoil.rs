@@ -54,16 +54,32 @@ const LEGACY: &[Corner] = &[
     Tagged(215, 32, 2),
 ];
 
+/// The corners of a mark; a QX has none.
+fn corners(mark: &[u8]) -> &'static [Corner] {
+    match mark {
+        b"QP" => PARK,
+        b"QT" => ENTRY,
+        b"QR" => RESOLVE,
+        b"QL" => LEGACY,
+        _ => &[],
+    }
+}
+
+/// The places of a mark's tags, kinds included, each with how many bytes stand behind it.
+pub fn tagged(mark: &[u8]) -> impl Iterator<Item = (usize, usize)> {
+    corners(mark).iter().filter_map(|corner| match *corner {
+        Tagged(at, width, _) => Some((at, width)),
+        _ => None,
+    })
+}
+
 impl Maker {
-    /// One field of a whole record goes just outside its layout; a QX has none that could.
+    /// One field of a whole record goes just outside its layout, where it has one that could.
     pub(super) fn spoil(&mut self, record: &mut [u8]) {
-        let corners = match &record[..2] {
-            b"QP" => PARK,
-            b"QT" => ENTRY,
-            b"QR" => RESOLVE,
-            b"QL" => LEGACY,
-            _ => return,
-        };
+        let corners = corners(&record[..2]);
+        if corners.is_empty() {
+            return;
+        }
         match *self.r.pick(corners) {
             Byte(at, value) => record[at] = value,
             Tagged(at, width, _) if record[at] == 0 && self.r.once_in(2) => record[at + 1 + self.r.index(width)] = 1,
