@@ -1,11 +1,14 @@
-//! Writes frozen answers: scripts and journals as standard input of programs, and the Rust's own answers as what they print.
+//! Writes frozen answers: scripts and journals as standard input of programs, and the Rust's own answers as what they print. What
+//! is printed of records that are written again is the driver's own.
 //!
 //! freeze FOLDER: writes FOLDER/scripts/stdin, FOLDER/scripts/stdout, FOLDER/journals/stdin and FOLDER/journals/stdout.
-//! The sample has document 01's examples, the scripts that the manual shows, a smallest input for each wrong rule, inputs at each limit, and random ones.
+//! The sample has document 01's examples, the scripts that the manual shows, a smallest input for each wrong rule, inputs at each
+//! limit, and random ones.
 use beside::journal::items::Item;
 use beside::journal::original::Original as Journal;
 use beside::journal::outcome::{Restored, ENOUGH, JOURNAL_LIMIT};
 use beside::journal::records::{Record, PARK_SIZE};
+use beside::journal::writing::case::Case;
 use beside::journal::wrong::Wrong;
 use beside::journal::{self, strength as journals};
 use beside::scratch::Scratch;
@@ -21,9 +24,10 @@ use std::path::Path;
 /// Random inputs are looked through from this seed on.
 const SEED: u64 = 1_000_000;
 
-/// How many random scripts and journals are kept beside the small ones.
+/// How many random scripts, journals and records to write are kept beside the small ones.
 const RANDOM_SCRIPTS: u64 = 8;
 const RANDOM_JOURNALS: u64 = 30;
+const RANDOM_RECORDS: usize = 20;
 
 /// How many random journals a wrong rule is looked for in.
 const JOURNALS_FOR_WRONG: u64 = 6000;
@@ -44,6 +48,23 @@ const STORE_REFUSALS: [u8; 7] = [1, 2, 3, 4, 6, 7, 8];
 /// The refusals that random journals with a long output, and records alone, meet.
 const FOLD_REFUSALS: [u8; 3] = [10, 11, 12];
 const RESTORE_REFUSALS: [u8; 4] = [11, 14, 15, 16];
+
+/// The records that are written again and spoiled: their marks, and whether the fields that may be absent are all present or all
+/// absent. QR and QX have none.
+const WHOLE_RECORDS: [(&[u8; 2], bool); 8] = [
+    (b"QP", true),
+    (b"QP", false),
+    (b"QT", true),
+    (b"QT", false),
+    (b"QR", true),
+    (b"QL", true),
+    (b"QL", false),
+    (b"QX", true),
+];
+
+/// How a line begins that is printed of a record to write: one of each length, and both ways to write none.
+const WRITTEN_LINES: [&str; 7] =
+    ["written 240 ", "written 120 ", "written 47 ", "written 256 ", "written 10 ", "refused 13\n", "no record\n"];
 
 // ---- scripts
 
@@ -148,6 +169,43 @@ fn parks(original: &Journal) -> Vec<Item> {
     list
 }
 
+/// A random record of a mark, whose fields are all present or all absent.
+fn record_of(mark: &[u8], present: bool) -> Vec<u8> {
+    let wanted = |bytes: &Vec<u8>| {
+        bytes.starts_with(mark) && journal::generate::tagged(mark).all(|(at, _)| (bytes[at] != 0) == present)
+    };
+    random_records().map(|(bytes, _)| bytes).find(wanted).expect("the seeds do not end")
+}
+
+/// Records of random values, and how many bytes are lent to their writers.
+fn random_records() -> impl Iterator<Item = (Vec<u8>, usize)> {
+    let cases = (SEED..).map(Case::new);
+    cases.filter_map(|case| Some((case.record()?.bytes(), case.slice.len().min(ENOUGH))))
+}
+
+/// One record in all that may come of it: written to a slice that is longer or just long enough, refused where the slice is a
+/// byte short or empty, and no record where a field is spoiled or the bytes are not exactly one record.
+fn rewritten(record: &[u8]) -> Vec<Item> {
+    let size = record.len();
+    let mut list: Vec<Item> = [ENOUGH, size + 1, size, size - 1, 0].map(|room| Item::Record(record.to_vec(), room)).into();
+    let mut bad = journal::generate::spoiled(record);
+    bad.extend([record[..size - 1].to_vec(), [record, &[0]].concat(), record.repeat(2)]);
+    list.extend(bad.into_iter().map(|bytes| Item::Record(bytes, ENOUGH)));
+    list
+}
+
+/// Records to write again.
+fn records() -> Vec<Item> {
+    let mut list: Vec<Item> =
+        WHOLE_RECORDS.iter().flat_map(|(mark, present)| rewritten(&record_of(*mark, *present))).collect();
+    // no bytes, a byte, a mark alone, an unknown mark; the last two have no room either
+    let unknown = [b"QQ", &Record::Other(7).bytes()[2..]].concat();
+    let bad = [(&b""[..], ENOUGH), (b"Q", ENOUGH), (b"QX", ENOUGH), (&unknown, ENOUGH), (&unknown, 0), (b"", 0)];
+    list.extend(bad.map(|(bytes, room)| Item::Record(bytes.to_vec(), room)));
+    list.extend(random_records().take(RANDOM_RECORDS).map(|(bytes, room)| Item::Record(bytes, room)));
+    list
+}
+
 fn freeze_journals(folder: &Path) {
     let scratch = Scratch::new();
     let original = Journal::new(scratch.path());
@@ -155,6 +213,7 @@ fn freeze_journals(folder: &Path) {
     list.extend(telling(&original));
     list.extend(narrow(&original));
     list.extend(parks(&original));
+    list.extend(records());
     let (mut input, mut output) = (Vec::new(), String::new());
     for (number, item) in list.iter().enumerate() {
         input.extend(item.bytes());
@@ -166,6 +225,9 @@ fn freeze_journals(folder: &Path) {
     for number in 9..=16 {
         let refused = [format!("refused {number} at"), format!("restore refused {number}\n")];
         assert!(refused.iter().any(|line| output.contains(line)), "refusal {number} stands in the sample");
+    }
+    for line in WRITTEN_LINES {
+        assert!(output.contains(&format!("\n{line}")), "{line:?} stands in the sample");
     }
     write(folder, &input, &output);
     println!("journals: {}, standard input {} bytes, output {} bytes", list.len(), input.len(), output.len());

@@ -8,7 +8,7 @@ use crate::random::Random;
 
 mod spoil;
 
-pub use spoil::tagged;
+pub use spoil::{spoiled, tagged};
 
 struct Maker {
     r: Random,

@@ -1,4 +1,5 @@
 //! The items that the program `journals` reads, and the lines that it is to print for them.
+use super::layout::{read, Reading};
 use super::original::Original;
 use super::outcome::{line, with_room, Restored, Room, TOTALS_SIZE};
 use crate::hex::hex;
@@ -10,30 +11,32 @@ pub enum Item {
     Journal(Vec<u8>, usize),
     /// One record to restore.
     Park(Vec<u8>),
+    /// One record to write again, and how many bytes are lent to its writer.
+    Record(Vec<u8>, usize),
 }
 
 impl Item {
     /// As it stands in the program's input.
     pub fn bytes(&self) -> Vec<u8> {
-        let (kind, bytes) = match self {
-            Item::Journal(bytes, _) => (0, bytes),
-            Item::Park(bytes) => (1, bytes),
+        let (kind, bytes, room) = match self {
+            Item::Journal(bytes, room) => (0, bytes, Some(*room as u16)),
+            Item::Park(bytes) => (1, bytes, None),
+            Item::Record(bytes, room) => (2, bytes, Some(*room as u16)),
         };
         let mut out = vec![kind];
         out.extend((bytes.len() as u32).to_le_bytes());
-        if let Item::Journal(_, room) = self {
-            out.extend((*room as u16).to_le_bytes());
-        }
+        out.extend(room.map(u16::to_le_bytes).into_iter().flatten());
         out.extend(bytes);
         out
     }
 
-    /// What the program prints for it as the item of this number, from the Rust's answers.
+    /// What the program prints for it as the item of this number: the Rust's answers, and for a record to write the driver's own.
     pub fn lines(&self, number: usize, original: &Original) -> String {
         let head = format!("== {number}\n");
         match self {
             Item::Journal(bytes, room) => head + &journal_lines(number, bytes, *room, original),
             Item::Park(bytes) => head + &restore_line(&original.restore(bytes, number as u64)),
+            Item::Record(bytes, room) => head + &written_line(bytes, *room),
         }
     }
 }
@@ -61,5 +64,15 @@ fn restore_line(restored: &Restored) -> String {
             }
             text + "\n"
         }
+    }
+}
+
+/// Bytes that are one whole record are written again where there is room.
+fn written_line(bytes: &[u8], room: usize) -> String {
+    match read(bytes) {
+        Reading::Whole(_, size) if size < bytes.len() => "no record\n".to_string(),
+        Reading::Whole(_, size) if room < size => "refused 13\n".to_string(),
+        Reading::Whole(record, size) => format!("written {size} {}\n", hex(&record.bytes())),
+        _ => "no record\n".to_string(),
     }
 }

@@ -3,6 +3,7 @@ use super::Maker;
 use crate::hex::hex;
 
 /// What can be spoiled in a record, by places in it.
+#[derive(Clone, Copy)]
 enum Corner {
     /// This byte becomes that.
     Byte(usize, u8),
@@ -54,6 +55,18 @@ const LEGACY: &[Corner] = &[
     Tagged(215, 32, 2),
 ];
 
+impl Corner {
+    /// Puts the field outside its layout: by a byte at a place behind a tag that is 0, where one is given; otherwise by the tag.
+    fn spoil(&self, record: &mut [u8], behind: Option<usize>) {
+        match (*self, behind) {
+            (Byte(at, value), _) => record[at] = value,
+            (Tagged(at, ..), Some(place)) => record[at + 1 + place] = 1,
+            (Tagged(at, _, outside), None) => record[at] = outside,
+            (Zeros(at, count), _) => record[at..at + count].fill(0),
+        }
+    }
+}
+
 /// The corners of a mark; a QX has none.
 fn corners(mark: &[u8]) -> &'static [Corner] {
     match mark {
@@ -73,6 +86,20 @@ pub fn tagged(mark: &[u8]) -> impl Iterator<Item = (usize, usize)> {
     })
 }
 
+/// A whole record spoiled in each of its fields, one at a time: an absent one by its last byte.
+pub fn spoiled(record: &[u8]) -> Vec<Vec<u8>> {
+    let one = |corner: &Corner| {
+        let mut spoiled = record.to_vec();
+        let behind = match *corner {
+            Tagged(at, width, _) if record[at] == 0 => Some(width - 1),
+            _ => None,
+        };
+        corner.spoil(&mut spoiled, behind);
+        spoiled
+    };
+    corners(&record[..2]).iter().map(one).collect()
+}
+
 impl Maker {
     /// One field of a whole record goes just outside its layout, where it has one that could.
     pub(super) fn spoil(&mut self, record: &mut [u8]) {
@@ -80,12 +107,12 @@ impl Maker {
         if corners.is_empty() {
             return;
         }
-        match *self.r.pick(corners) {
-            Byte(at, value) => record[at] = value,
-            Tagged(at, width, _) if record[at] == 0 && self.r.once_in(2) => record[at + 1 + self.r.index(width)] = 1,
-            Tagged(at, _, outside) => record[at] = outside,
-            Zeros(at, count) => record[at..at + count].fill(0),
-        }
+        let corner = self.r.pick(corners);
+        let behind = match *corner {
+            Tagged(at, width, _) if record[at] == 0 && self.r.once_in(2) => Some(self.r.index(width)),
+            _ => None,
+        };
+        corner.spoil(record, behind);
     }
 
     /// One of the records is spoiled, and the journal may end within it.
