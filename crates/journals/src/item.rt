@@ -1,11 +1,18 @@
-// The head of an item of standard input: its kind, the number of its bytes, and for a journal the output lent to its fold.
+// The head of an item of standard input: its kind, the number of its bytes, and the length of the output that is lent.
 use libc::STDIN_FILENO;
 
 // One byte more than a journal may have, so that a longer one is refused.
 pub(crate) const LONGEST: usize = 65537;
 
+// What is done with an item's bytes.
+pub(crate) enum Kind {
+    Fold,
+    Restore,
+    Rewrite,
+}
+
 pub(crate) struct Head {
-    pub(crate) is_journal: bool,
+    pub(crate) kind: Kind,
     pub(crate) len: usize,
     pub(crate) room: usize,
     // how many bytes of standard input the item takes, its head included
@@ -19,8 +26,8 @@ pub(crate) enum Next {
     Bad,
 }
 
-// The rest of the head of a journal: the output lent to its fold.
-fn journal_head(len: usize) -> Next {
+// The rest of a head that says how long the output is.
+fn lent_head(kind: Kind, len: usize) -> Next {
     let mut bytes = [0u8; 2];
     if io::read_full(STDIN_FILENO, &mut bytes) < 2 {
         return Next::Bad;
@@ -30,7 +37,7 @@ fn journal_head(len: usize) -> Next {
         return Next::Bad;
     }
     let head = Head {
-        is_journal: true,
+        kind: kind,
         len: len,
         room: room,
         size: 7 + len,
@@ -38,13 +45,13 @@ fn journal_head(len: usize) -> Next {
     Next::Item(head)
 }
 
-// The head of a record.
+// The head of a record to restore.
 fn park_head(len: usize) -> Next {
     if LONGEST < len {
         return Next::Bad;
     }
     let head = Head {
-        is_journal: false,
+        kind: Kind::Restore,
         len: len,
         room: 0,
         size: 5 + len,
@@ -64,8 +71,9 @@ pub(crate) fn next_head() -> Next {
     }
     let len = wire::number(&bytes, 1, 4) as usize;
     match bytes[0] {
-        0 => journal_head(len),
+        0 => lent_head(Kind::Fold, len),
         1 => park_head(len),
+        2 => lent_head(Kind::Rewrite, len),
         _ => Next::Bad,
     }
 }

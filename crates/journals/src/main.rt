@@ -1,10 +1,14 @@
-// Folds the journals of standard input, restores what is pending and records alone, and prints every answer.
+// Folds the journals of standard input, restores what is pending and records alone, writes records again, and prints every answer.
 use console::Output;
 use item::Head;
+use item::Kind;
 use item::Next;
+use journal_writer::WriteAnswer;
 use libc::STDIN_FILENO;
+use rewrite::Rewritten;
 
 mod item; // item.rt: the head of an item of standard input
+mod rewrite; // rewrite.rt: one record, read and written again
 
 // How long standard input may be.
 const INPUT: usize = 1048576;
@@ -64,17 +68,43 @@ fn run_journal(out: &mut Output, journal: &[u8], records: &mut [u8]) {
     }
 }
 
-// Folds or restores the bytes of an item.
-fn run(out: &mut Output, head: Head, bytes: &[u8]) {
-    if !head.is_journal {
-        print_restored(out, bytes);
-        return;
+// The length of the record that was written and its bytes, or the refusal.
+fn print_answer(out: &mut Output, answer: WriteAnswer, record: &[u8]) {
+    match answer {
+        WriteAnswer::Written(n) => {
+            console::count(out, b"written", n as u64);
+            console::text(out, b" ");
+            // No record is longer than what was lent.
+            if n <= record.len() {
+                console::hex(out, &record[0..n]);
+            }
+        }
+        WriteAnswer::Refused(x) => console::count(out, b"refused", refusal::number(x)),
     }
-    let mut records = [0u8; 15360];
+}
+
+// Writes a record again.
+fn run_record(out: &mut Output, bytes: &[u8], record: &mut [u8]) {
+    match rewrite::rewrite(bytes, record) {
+        Rewritten::Answer(answer) => print_answer(out, answer, record),
+        Rewritten::NoRecord => console::text(out, b"no record"),
+    }
+    console::text(out, b"\n");
+}
+
+// Folds, restores or writes again the bytes of an item.
+fn run(out: &mut Output, head: Head, bytes: &[u8]) {
+    let mut lent = [0u8; 15360];
     let room = head.room;
     // No head that was read has a larger room.
-    if room <= 15360 {
-        run_journal(out, bytes, &mut records[0..room]);
+    if 15360 < room {
+        return;
+    }
+    let kind = head.kind;
+    match kind {
+        Kind::Fold => run_journal(out, bytes, &mut lent[0..room]),
+        Kind::Restore => print_restored(out, bytes),
+        Kind::Rewrite => run_record(out, bytes, &mut lent[0..room]),
     }
 }
 
