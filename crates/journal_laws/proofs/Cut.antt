@@ -34,7 +34,7 @@ cut-fold (suc k) bs at m s t end h = go (stepped bs s) (λ n j u. cut-fold k (dr
     go : Stepped bs s → ((n j : ℕ) (u : Folded) → foldFrom k (drop n bs) (at + n) u ≡ folded t end →
         foldFrom k (take j (drop n bs)) (at + n) u ≡ foldOf (wholeBefore (at + n + j) (recordsFrom k (drop n bs) (at + n) u)) u (at + n)) →
         foldFrom (suc k) (take m bs) at s ≡ foldOf (wholeBefore (at + m) (recordsFrom (suc k) bs at s)) s at
-    go (stops e cut) ih = rw (cut m, e)
+    go (stops e a cut) ih = rw (cut m, e)
     go (refuses n a l e) ih = let z : _≡_ {A = ℕ} 0 1 = cc (rw e at h) in absurd (omega arith)
     go (reads form u l c e cut) ih = rw (cut m, e) (tested (leb (sizeOf form) m) refl)
       where

@@ -25,7 +25,7 @@ module _ (Q : Bytes → Type 0) (taking : (n : ℕ) (bs : Bytes) → Q bs → Q 
   fold-keeps (suc k) bs at s t end q p h = go (stepped bs s) (λ n u. fold-keeps k (drop n bs) (at + n) u t end (dropping n bs q))
     where
       go : Stepped bs s → ((n : ℕ) (u : Folded) → P (u .pending) → foldFrom k (drop n bs) (at + n) u ≡ folded t end → P (t .pending)) → P (t .pending)
-      go (stops e cut) ih = let d : s ≡ t = cc (rw e at h) in subst (λ (x : Folded). P (x .pending)) d p
+      go (stops e a cut) ih = let d : s ≡ t = cc (rw e at h) in subst (λ (x : Folded). P (x .pending)) d p
       go (refuses n a l e) ih = let z : _≡_ {A = ℕ} 0 1 = cc (rw e at h) in absurd (omega arith)
       go (reads form u l c e cut) ih = ih (sizeOf form) u (keeps _ _ _ (taking (sizeOf form) bs q) c p) (rw e at h)
 
@@ -44,7 +44,7 @@ fuel (suc k) (suc j) bs at s h i = go (stepped bs s) (λ n u. fuel k j (drop n b
   where
     go : Stepped bs s → ((n : ℕ) (u : Folded) → length (drop n bs) ≤ k → length (drop n bs) ≤ j → foldFrom k (drop n bs) (at + n) u ≡ foldFrom j (drop n bs) (at + n) u) →
         foldFrom (suc k) bs at s ≡ foldFrom (suc j) bs at s
-    go (stops e cut) ih = rw e
+    go (stops e a cut) ih = rw e
     go (refuses n a l e) ih = rw e
     go (reads form u l c e cut) ih =
         let t = at-least-ten form in

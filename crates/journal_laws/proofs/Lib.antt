@@ -5,3 +5,4 @@ pub mod Cut
 pub mod Refusals
 pub mod Settling
 pub mod Refold
+pub mod Rewrite

@@ -44,7 +44,7 @@ fold-refuses zero bs at s n a h = let z : _≡_ {A = ℕ} 0 1 = cc in absurd (om
 fold-refuses (suc k) bs at s n a h = go (stepped bs s) (λ w u. fold-refuses k (drop w bs) (at + w) u n a)
   where
     go : Stepped bs s → ((w : ℕ) (u : Folded) → foldFrom k (drop w bs) (at + w) u ≡ refused n a → Refuses k (drop w bs) (at + w) u n a) → Refuses (suc k) bs at s n a
-    go (stops e cut) ih = let z : _≡_ {A = ℕ} 0 1 = cc (rw e at h) in absurd (omega arith)
+    go (stops e a cut) ih = let z : _≡_ {A = ℕ} 0 1 = cc (rw e at h) in absurd (omega arith)
     go (refuses j r l e) ih =
         let q : j ≡ n = cc (rw e at h) in
         let p : at ≡ a = cc (rw e at h) in
@@ -62,7 +62,7 @@ fold-end zero bs at s t end h = let e : at ≡ end = cc in omega arith
 fold-end (suc k) bs at s t end h = go (stepped bs s) (λ w u. fold-end k (drop w bs) (at + w) u t end)
   where
     go : Stepped bs s → ((w : ℕ) (u : Folded) → foldFrom k (drop w bs) (at + w) u ≡ folded t end → end ≤ at + w + length (drop w bs)) → end ≤ at + length bs
-    go (stops e cut) ih = let q : at ≡ end = cc (rw e at h) in omega arith
+    go (stops e a cut) ih = let q : at ≡ end = cc (rw e at h) in omega arith
     go (refuses n r l e) ih = let z : _≡_ {A = ℕ} 0 1 = cc (rw e at h) in absurd (omega arith)
     go (reads form u l c e cut) ih =
         let i = ih (sizeOf form) u (rw e at h) in

@@ -17,6 +17,7 @@ use Rattle.journal_record.specs.Reading.{Form, park, tentativeEntry, resolve, l
 use Rattle.gap_quarantine_journal.specs.Pending.{putPark, removePark, enterPark, settled, legacyHash, legacyClaimed, migrated}
 use Rattle.gap_quarantine_journal.specs.Fold.{Counts, Folded, Step, unfinished, refuse, read, keep64, applyPark, applyTentative, applyResolve, applyLegacyAs, applyLegacy, applyOther, apply, stepWhole, stepForm, stepOf}
 use Rattle.journal_laws.specs.Sizes.{Sizes}
+use Rattle.journal_laws.specs.Rewriting.{wholeForm, formAt}
 
 -- ---- a whole record
 
@@ -42,29 +43,29 @@ pub data AtRecord : ℕ → Type 0 where
 
 data Whole (form : Form) (bs : Bytes) (s : Folded) (d : Step) : Type 0 where
   refuses : (n : ℕ) → AtRecord n → d ≡ refuse n → Whole form bs s d
-  reads : (t : Folded) → Change bs (s .pending) (t .pending) → d ≡ read (sizeOf form) t → Whole form bs s d
+  reads : (t : Folded) → accepted form bs ≡ true → Change bs (s .pending) (t .pending) → d ≡ read (sizeOf form) t → Whole form bs s d
 
-keeps : (form : Form) (bs : Bytes) (s : Folded) (p : Park) (c : Counts) → Puts bs p → Whole form bs s (keep64 (sizeOf form) (putPark p (s .pending)) c)
+keeps : (form : Form) (bs : Bytes) (s : Folded) (p : Park) (c : Counts) → accepted form bs ≡ true → Puts bs p → Whole form bs s (keep64 (sizeOf form) (putPark p (s .pending)) c)
 unfolding keep64
-keeps form bs s p c h = go (ltb 64 (length (putPark p (s .pending)))) refl
+keeps form bs s p c a h = go (ltb 64 (length (putPark p (s .pending)))) refl
   where
     go : (b : Bool) → ltb 64 (length (putPark p (s .pending))) ≡ b → Whole form bs s (keep64 (sizeOf form) (putPark p (s .pending)) c)
     go true e = refuses 12 overKeys (rw e)
-    go false e = reads (record { pending = putPark p (s .pending); counts = c }) (put p h (ltb-false 64 _ e)) (rw e)
+    go false e = reads (record { pending = putPark p (s .pending); counts = c }) a (put p h (ltb-false 64 _ e)) (rw e)
 
 applies : (form : Form) (bs : Bytes) (s : Folded) → accepted form bs ≡ true → Whole form bs s (apply form bs s)
 unfolding apply applyPark applyTentative applyResolve applyLegacy applyLegacyAs applyOther
-applies park bs s h = keeps park bs s (settled (parkOf bs)) (s .counts) (parked h)
-applies tentativeEntry bs s h = reads _ (enter h) refl
-applies resolve bs s h = reads _ (remove (canonical (resolveOf bs .hash))) refl
+applies park bs s h = keeps park bs s (settled (parkOf bs)) (s .counts) h (parked h)
+applies tentativeEntry bs s h = reads _ h (enter h) refl
+applies resolve bs s h = reads _ h (remove (canonical (resolveOf bs .hash))) refl
 applies legacyPark bs s h = go (legacyHash (legacyOf bs)) (legacyClaimed (legacyOf bs)) refl refl
   where
     go : (o : Option Bytes) (n : Option ℕ) → legacyHash (legacyOf bs) ≡ o → legacyClaimed (legacyOf bs) ≡ n →
         Whole legacyPark bs s (applyLegacyAs (sizeOf legacyPark) o n (legacyOf bs) s)
-    go none n p q = reads _ same refl
-    go (some hash) none p q = reads _ same refl
-    go (some hash) (some claimed) p q = keeps legacyPark bs s (migrated hash claimed (legacyOf bs)) _ (moved h hash claimed p q)
-applies other bs s h = reads _ same refl
+    go none n p q = reads _ h same refl
+    go (some hash) none p q = reads _ h same refl
+    go (some hash) (some claimed) p q = keeps legacyPark bs s (migrated hash claimed (legacyOf bs)) _ h (moved h hash claimed p q)
+applies other bs s h = reads _ h same refl
 
 whole : (form : Form) (bs : Bytes) (s : Folded) → Whole form bs s (stepWhole form bs s)
 unfolding stepWhole
@@ -87,10 +88,16 @@ at-least-ten resolve = rw (sizes .2) (omega arith)
 at-least-ten legacyPark = rw (sizes .3) (omega arith)
 at-least-ten other = rw (sizes .4) (omega arith)
 
+-- the record of this form that bytes begin with, whole and accepted
+pub record Here (form : Form) (bs : Bytes) : Type 0 where
+  pub room : sizeOf form ≤ length bs
+  pub accepts : accepted form (take (sizeOf form) bs) ≡ true
+  pub is : formAt bs ≡ some form
+
 pub data Stepped (bs : Bytes) (s : Folded) : Type 0 where
-  stops : stepOf bs s ≡ unfinished → ((m : ℕ) → stepOf (take m bs) s ≡ unfinished) → Stepped bs s
+  stops : stepOf bs s ≡ unfinished → formAt bs ≡ none → ((m : ℕ) → stepOf (take m bs) s ≡ unfinished) → Stepped bs s
   refuses : (n : ℕ) → AtRecord n → 2 ≤ length bs → stepOf bs s ≡ refuse n → Stepped bs s
-  reads : (form : Form) (t : Folded) → sizeOf form ≤ length bs → Change (take (sizeOf form) bs) (s .pending) (t .pending) →
+  reads : (form : Form) (t : Folded) → Here form bs → Change (take (sizeOf form) bs) (s .pending) (t .pending) →
       stepOf bs s ≡ read (sizeOf form) t →
       ((m : ℕ) → stepOf (take m bs) s ≡ cond (leb (sizeOf form) m) (read (sizeOf form) t) unfinished) → Stepped bs s
 
@@ -111,6 +118,20 @@ module _ (bs : Bytes) (s : Folded) (h : 2 ≤ length bs) (form : Form) (e : form
   pub step-whole : sizeOf form ≤ length bs → stepOf bs s ≡ stepWhole form (take (sizeOf form) bs) s
   unfolding stepForm
   step-whole l = step-marked bs s h (some form) e ∙ rw (le-ltb (length bs) (sizeOf form) l)
+
+-- the form of the record that bytes begin with
+form-none : (bs : Bytes) → length bs < 2 → formAt bs ≡ none
+unfolding formAt
+form-none bs h = rw (lt-ltb (length bs) 2 h)
+
+module _ (bs : Bytes) (h : 2 ≤ length bs) (form : Form) (e : formOf (take 2 bs) ≡ some form) where
+  form-cut : length bs < sizeOf form → formAt bs ≡ none
+  unfolding formAt wholeForm
+  form-cut l = rw (le-ltb (length bs) 2 h, e, lt-ltb (length bs) (sizeOf form) l)
+
+  form-whole : sizeOf form ≤ length bs → accepted form (take (sizeOf form) bs) ≡ true → formAt bs ≡ some form
+  unfolding formAt wholeForm
+  form-whole l a = rw (le-ltb (length bs) 2 h, e, le-ltb (length bs) (sizeOf form) l, a)
 
 -- the same bytes, cut
 module _ (bs : Bytes) (s : Folded) (h : 2 ≤ length bs) (form : Form) (e : formOf (take 2 bs) ≡ some form) (m : ℕ) where
@@ -154,8 +175,9 @@ stepped bs s = go (ltb (length bs) 2) refl
       where
         by : Whole form (take (sizeOf form) bs) s (stepWhole form (take (sizeOf form) bs) s) → Stepped bs s
         by (refuses n a q) = refuses n a h (step-whole bs s h form e l ∙ q)
-        by (reads t c q) =
-            reads form t l c (step-whole bs s h form e l ∙ q) (λ m. cut-whole bs s h form e m l (read (sizeOf form) t) q)
+        by (reads t a c q) =
+            reads form t (record { room = l; accepts = a; is = form-whole bs h form e l a }) c (step-whole bs s h form e l ∙ q)
+            (λ m. cut-whole bs s h form e m l (read (sizeOf form) t) q)
 
     marked : 2 ≤ length bs → (o : Option Form) → formOf (take 2 bs) ≡ o → Stepped bs s
     marked h none e = refuses 10 unknownMark h (step-marked bs s h none e)
@@ -164,11 +186,11 @@ stepped bs s = go (ltb (length bs) 2) refl
         sized : (b : Bool) → ltb (length bs) (sizeOf form) ≡ b → Stepped bs s
         sized true q =
             let l = ltb-true (length bs) (sizeOf form) q in
-            stops (step-cut bs s h form e l) (λ m. cut-before bs s h form e m (omega arith))
+            stops (step-cut bs s h form e l) (form-cut bs h form e l) (λ m. cut-before bs s h form e m (omega arith))
         sized false q = long h form e (ltb-false (length bs) (sizeOf form) q)
 
     go : (b : Bool) → ltb (length bs) 2 ≡ b → Stepped bs s
     go true q =
         let l = ltb-true (length bs) 2 q in
-        stops (step-short bs s l) (λ m. step-short (take m bs) s (rw (length-take m bs) (omega arith)))
+        stops (step-short bs s l) (form-none bs l) (λ m. step-short (take m bs) s (rw (length-take m bs) (omega arith)))
     go false q = marked (ltb-false (length bs) 2 q) (formOf (take 2 bs)) refl

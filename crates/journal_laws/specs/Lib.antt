@@ -3,3 +3,4 @@ pub mod CutRule
 pub mod Keys
 pub mod Places
 pub mod Refolding
+pub mod Rewriting
