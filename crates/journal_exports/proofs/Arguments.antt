@@ -14,7 +14,7 @@ use Rattle.lists.specs.Lists.{every, isEmpty, written}
 use Rattle.layout.specs.Layout.{size}
 use Rattle.journal_record.specs.Reading.{Form, park, tentativeEntry, resolve, legacyPark, other, layoutOf, sizeOf}
 use Rattle.journal_writer.specs.Writing.{Value, formIn, inLayout, wrote, Outcome, turnedAway, write, bytesOf}
-use Rattle.journal_exports.specs.Writers.{optional, given, Short, codeOf, ExportedRecord, coded, exportedWrite}
+use Rattle.journal_exports.specs.Writers.{optional, given, Short, codeOf, coded, exportedWrite}
 
 -- ---- optional fields
 

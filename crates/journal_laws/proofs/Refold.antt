@@ -16,7 +16,7 @@ use Rattle.lists.proofs.Keeping.{each-append, each-map}
 use Rattle.wire.specs.HashText.{parseHash}
 use Rattle.layout.specs.Layout.{size, join}
 use Rattle.journal_record.specs.Records.{Fidelity, full, degraded, Park, parkMark}
-use Rattle.journal_record.specs.Reading.{park, formOf, layoutOf, sizeOf, versionOf, accepted, isPark}
+use Rattle.journal_record.specs.Reading.{park, formOf, layoutOf, sizeOf, accepted, isPark}
 use Rattle.journal_writer.specs.Writing.{formIn, parkValue, parkFields, fieldsOf, bytesOf, parkBytes}
 use Rattle.journal_writer.proofs.Back.{reads-back, value-fits, value-long, park-back}
 use Rattle.gap_quarantine_journal.specs.Pending.{putPark, isNonZero, isFull, fullOr, settledFidelity}

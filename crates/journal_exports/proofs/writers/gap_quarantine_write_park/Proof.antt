@@ -1,4 +1,4 @@
-use mathlib.Core.Path.{_≡_, refl, sym, _∙_}
+use mathlib.Core.Path.{_≡_, sym, _∙_}
 use mathlib.Core.Bool.{true}
 use mathlib.Core.List.{[], _∷_}
 use borrow.Author.Tests.{leb-true, not-true, not-false}
@@ -6,7 +6,7 @@ use lib.Dec.{eqb, leb}
 use lib.ListN.{length}
 use Rattle.lists.specs.Lists.{every}
 use Rattle.layout.specs.Layout.{within}
-use Rattle.journal_writer.specs.Writing.{Value, parkValue, write}
+use Rattle.journal_writer.specs.Writing.{parkValue, write}
 use Rattle.journal_writer.specs.View.{answerSeen}
 use Rattle.journal_writer.proofs.Sized.{each-true}
 use Rattle.journal_exports.specs.Writers.{optional, isTentative, exportedPark}

@@ -1,14 +1,13 @@
 use Prim.Native.Nat.{_≤_}
 use native.Mathlib.Omega.{arith}
-use mathlib.Core.Path.{_≡_, refl, ap, _∙_}
+use mathlib.Core.Path.{ap, _∙_}
 use borrow.Author.Tests.{le-leb, lt-leb, eq-eqb, ne-eqb}
 use lib.ListN.{length}
 use Rattle.lists.specs.Lists.{every}
-use Rattle.journal_record.specs.Records.{Resolve}
 use Rattle.journal_record.specs.Reading.{resolutionValue}
-use Rattle.journal_record.specs.View.{resolutionSeen, resolveSeen}
+use Rattle.journal_record.specs.View.{resolutionSeen}
 use Rattle.journal_record.proofs.Shown.{resolution-seen}
-use Rattle.journal_writer.specs.Writing.{Value, resolveValue, write}
+use Rattle.journal_writer.specs.Writing.{resolveValue, write}
 use Rattle.journal_writer.specs.View.{answerSeen}
 use Rattle.journal_exports.specs.Writers.{exportedResolve}
 use Rattle.journal_exports.proofs.Arguments.{answer-short, refused-as, written-as}

@@ -1,8 +1,8 @@
-use mathlib.Core.Path.{_≡_, refl, sym, _∙_}
+use mathlib.Core.Path.{sym, _∙_}
 use borrow.Author.Tests.{eq-eqb, ne-eqb, not-true, not-false}
 use lib.ListN.{length}
 use Rattle.lists.specs.Lists.{every}
-use Rattle.journal_writer.specs.Writing.{Value, entryValue, write}
+use Rattle.journal_writer.specs.Writing.{entryValue, write}
 use Rattle.journal_writer.specs.View.{answerSeen}
 use Rattle.journal_exports.specs.Writers.{exportedEntry}
 use Rattle.journal_exports.proofs.Arguments.{answer-short, refused-as, written-as}
