@@ -39,8 +39,8 @@ one-again form bs at end xs bytes h r =
     let z : end - at ≡ n + (end - (at + n)) = omega arith in
     record {
       behind = omega arith;
-      fit = (in-layout form (take n bs) b l (h .accepts), r .fit);
-      same = rw (bytes-again form (take n bs) b l (h .accepts), r .same, z) (sym (take-add n (end - (at + n)) bs));
+      fit = (in-layout form (take n bs) b (h .accepts), r .fit);
+      same = rw (bytes-again form (take n bs) b (h .accepts) l, r .same, z) (sym (take-add n (end - (at + n)) bs));
     }
 
 again-from : (k : ℕ) (bs : Bytes) (at : ℕ) (s t : Folded) (end : ℕ) → Each IsByte bs → foldFrom k bs at s ≡ folded t end → Again bs at end (valuesFrom k bs)
