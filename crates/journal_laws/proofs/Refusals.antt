@@ -1,4 +1,4 @@
--- The proofs of `Places`, `Codes` and `RestoreNumbers`.
+-- The proofs of `Places`, `Codes`, `RestoreNumbers` and `WriteCodes`.
 use Prim.Native.Nat.{ℕ, zero, suc, _+_, _*_, _≤_}
 use native.Mathlib.Omega.{arith}
 use mathlib.Core.Path.{_≡_, refl, sym, ap, _∙_, subst}
@@ -10,17 +10,20 @@ use lib.ListN.{length, drop, length-drop}
 use lib.Seq.{drop-drop}
 use borrow.Author.Tests.{ltb-true, ltb-false}
 use Rattle.lists.specs.Bytes.{Bytes}
-use Rattle.lists.specs.Lists.{isIn}
+use Rattle.lists.specs.Lists.{every, isIn, written}
 use Rattle.wire.specs.HashText.{parseHash}
 use Rattle.journal_record.specs.Records.{Fidelity, full, degraded, Park}
 use Rattle.layout.specs.Layout.{size}
 use Rattle.journal_record.specs.Reading.{layoutOf, sizeOf, parkOf, isPark}
+use Rattle.journal_writer.specs.Writing as writing
+use Rattle.journal_writer.specs.Writing.{formIn, bytesOf, inLayout, wrote, write}
 use Rattle.gap_quarantine_journal.specs.Fold.{Folded, begin, refuse, stepOf, Outcome, folded, refused, after, foldFrom, roomFor, foldJournal, foldInto}
 use Rattle.gap_quarantine_journal.specs.Restore as restoring
 use Rattle.gap_quarantine_journal.specs.Restore.{restored, frameOf, restoreDegraded, restoreFull, restoreAs, restoreHash, restorePark, restore}
 use Rattle.journal_exports.specs.Export.{turnedAway, exportedAs, exported}
+use Rattle.journal_exports.specs.Writers.{codeOf, exportedWrite}
 use Rattle.journal_laws.specs.CutRule.{past, recordsFrom, records, foldOf}
-use Rattle.journal_laws.specs.Places.{Place, whole, inRecord, last, Places, Code, done, away, Codes, RestoreNumber, RestoreNumbers}
+use Rattle.journal_laws.specs.Places.{Place, whole, inRecord, last, Places, Code, done, away, Codes, RestoreNumber, RestoreNumbers, WriteCode, wroteOne, wroteNone, WriteCodes}
 use Rattle.journal_laws.proofs.Steps.{AtRecord, unknownMark, outsideLayout, overKeys, Stepped, stops, refuses, reads, stepped}
 use Rattle.journal_laws.proofs.Folds.{folds, folds-of}
 use Rattle.journal_laws.proofs.KeyOrder.{fold-order}
@@ -164,3 +167,15 @@ restores bs n h = go (isPark bs) h
     go : (b : Bool) → cond b (restorePark (parkOf bs)) (restoring.refused 11) ≡ restoring.refused n → RestoreNumber n
     go true q = parsed (parseHash (parkOf bs .text)) (parkOf bs) q
     go false q = let e : 11 ≡ n = cc in subst RestoreNumber e refl
+
+-- ---- the writers
+
+pub write-codes : WriteCodes
+unfolding exportedWrite codeOf write isIn
+write-codes tests x out = go (every tests) (inLayout x) (ltb (length out) (sizeOf (formIn x)))
+  where
+    go : (a b c : Bool) → WriteCode (codeOf (cond a (cond b (cond c (writing.turnedAway 13 out) (record { answer = wrote (sizeOf (formIn x)); out = written (bytesOf x) out })) (writing.turnedAway 11 out)) (writing.turnedAway 11 out) .answer))
+    go true true true = wroteNone 13 refl
+    go true true false = wroteOne (formIn x)
+    go true false c = wroteNone 11 refl
+    go false b c = wroteNone 11 refl

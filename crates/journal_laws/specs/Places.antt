@@ -1,16 +1,19 @@
--- Where a call is turned away, and with which numbers: `Places` of the fold, `Codes` of the exported function, `RestoreNumbers` of restore.
+-- Where a call is turned away, and with which numbers: `Places` of the fold, `Codes` of the exported one, `RestoreNumbers` of restore,
+-- `WriteCodes` of the exported writers.
 use Prim.Native.Nat.{ℕ, _+_, _*_, _≤_, _<_}
 use mathlib.Core.Path.{_≡_}
-use mathlib.Core.Bool.{true}
-use mathlib.Core.List.{[], _∷_}
+use mathlib.Core.Bool.{Bool, true}
+use mathlib.Core.List.{List, [], _∷_}
 use lib.ListN.{length, drop}
 use Rattle.lists.specs.Bytes.{Bytes}
 use Rattle.lists.specs.Lists.{isIn}
-use Rattle.journal_record.specs.Reading.{park, sizeOf}
+use Rattle.journal_record.specs.Reading.{Form, park, sizeOf}
+use Rattle.journal_writer.specs.Writing.{Value}
 use Rattle.gap_quarantine_journal.specs.Fold.{Folded, begin, refuse, stepOf, folded, refused, foldInto}
 use Rattle.gap_quarantine_journal.specs.Restore as restoring
 use Rattle.gap_quarantine_journal.specs.Restore.{restore}
 use Rattle.journal_exports.specs.Export.{exported}
+use Rattle.journal_exports.specs.Writers.{exportedWrite}
 use Rattle.journal_laws.specs.CutRule.{records, foldOf}
 
 -- the number and the offset of a fold's refusal
@@ -40,3 +43,11 @@ RestoreNumber n = isIn n (11 ∷ 14 ∷ 15 ∷ 16 ∷ []) ≡ true
 
 abbrev pub RestoreNumbers : Type 0
 RestoreNumbers = (bs : Bytes) (n : ℕ) → restore bs ≡ restoring.refused n → RestoreNumber n
+
+-- of a writer: 256 times a record's length, or 11, or 13
+pub data WriteCode : ℕ → Type 0 where
+  wroteOne : (form : Form) → WriteCode (256 * sizeOf form)
+  wroteNone : (n : ℕ) → isIn n (11 ∷ 13 ∷ []) ≡ true → WriteCode n
+
+abbrev pub WriteCodes : Type 0
+WriteCodes = (tests : List Bool) (x : Value) (out : Bytes) → WriteCode (exportedWrite tests x out .code)
