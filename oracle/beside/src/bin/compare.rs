@@ -40,7 +40,7 @@ fn sizes() -> Sizes {
         calls: 1_200_000,
         orders: 100_000,
         journals: 100_000,
-        records: 100_000,
+        records: 150_000,
         seed: 0,
         replay: None,
         short_slices: None,
