@@ -1,34 +1,18 @@
 //! How fast the fold and the writers are: bytes and records a second of each journal, and bytes a second of each writer beside
 //! a plain copy of its record. Each is the fastest of nine runs.
 
+mod sample;
+
 use gap_quarantine_journal::{
-    fold, ConsumedKind, Fidelity, LegacyParkRecord, OtherRecord, ParkRecord, Refusal, Resolution, ResolveRecord,
-    TentativeEntryRecord, TentativeRecord, ENOUGH, LEGACY, OTHER, PARK, RESOLVE, TENTATIVE,
+    fold, ConsumedKind, LegacyParkRecord, OtherRecord, Refusal, Resolution, ResolveRecord, TentativeEntryRecord,
+    TentativeRecord, ENOUGH, LEGACY, OTHER, PARK, RESOLVE, TENTATIVE,
 };
+use sample::park;
 use std::hint::black_box;
 use std::time::Instant;
 
 fn text_of(key: u8) -> String {
     format!("0x{}", format!("{key:02x}").repeat(32))
-}
-
-fn park(text: &str) -> ParkRecord<'_> {
-    ParkRecord {
-        version: 2,
-        text: text.as_bytes(),
-        from: Some([1; 20]),
-        sender: Some([2; 20]),
-        chain_id: 1,
-        gas: 21000,
-        wire: true,
-        list: true,
-        claimed_nonce: 8,
-        expected_nonce: 5,
-        parked_at: 0,
-        fidelity: Fidelity::Full,
-        tentative: None,
-        ticket: 3,
-    }
 }
 
 fn resolve(key: u8) -> ResolveRecord {
@@ -108,7 +92,7 @@ fn tell_writer(name: &str, length: usize, mut write: impl FnMut(u64, &mut [u8]) 
 }
 
 fn tell_folds() {
-    let park_of = |key| bytes(PARK, |out| park(&text_of(key)).write(out));
+    let park_of = |key| bytes(PARK, |out| park(text_of(key).as_bytes()).write(out));
     let resolve_of = |key| bytes(RESOLVE, |out| resolve(key).write(out));
     let other = bytes(OTHER, |out| OtherRecord { ticket: 5 }.write(out));
     let parks: Vec<_> = (0..273).map(|i| park_of((i % 64) as u8 + 1)).collect();
@@ -125,7 +109,7 @@ fn tell_folds() {
 
 fn tell_writers() {
     let text = text_of(1);
-    let mut park = park(&text);
+    let mut park = park(text.as_bytes());
     tell_writer("QP", PARK, |number, out| {
         (park.claimed_nonce, park.ticket) = (number, number);
         park.write(out)
