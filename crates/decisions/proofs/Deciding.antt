@@ -7,10 +7,10 @@ use mathlib.Core.Option.{Option, none, some}
 use types.Run.{OneOf, miss}
 use denote.Enum.Declared.{tagOf}
 use Rattle.lists.specs.Bytes.{Bytes, eqBytes, eqNumbers}
-use Rattle.store_rules.specs.Frames.{Standing, Entry, Guard, Row, Visit}
+use Rattle.store_rules.specs.Frames.{Standing, Entry, Guard, Row, Visit, isTracked}
 use Rattle.store_rules.specs.Poll.{Content, predecessors, boundaryHolds, contentMatches, guardMatches, row, stay, leave, pollGiven, pollRule}
 use Rattle.store_rules.specs.Rules.{onlyOf}
-use Rattle.store_rules.specs.Store.{guardOf, isTracked}
+use Rattle.store_rules.specs.Store.{guardOf}
 use Rattle.store_rules.specs.View.{entryOf, Bodies, contentOf}
 use Rattle.store_rules.specs.declared.Entry as coded
 use Rattle.store_rules.specs.declared.NonceConsumed.{NonceConsumed}

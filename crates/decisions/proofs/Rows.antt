@@ -13,7 +13,8 @@ use Rattle.lists.proofs.Elements.{length-keep}
 use Rattle.store_rules.specs.Frames.{Frame, Entry, Guard, Row, Visit}
 use Rattle.store_rules.specs.Poll.{Content, numbersFrom, gap, predecessors, unknown, guardMatches, stay, leave, row, pollRule}
 use Rattle.store_rules.specs.Rules.{onlyOf}
-use Rattle.store_rules.specs.Store.{long, guardOf, dropGuard, walk, entriesOf}
+use Rattle.store_rules.specs.Lookup.{entriesOf}
+use Rattle.store_rules.specs.Store.{long, guardOf, dropGuard, walk}
 use Rattle.store_rules.specs.Answers.{decisionNumber, rowNumbers}
 use Rattle.store_rules.proofs.PollCases.{PollCase, silent, consumed, holds, hold, waits, heldBack, rescued, poll-case}
 use Rattle.decisions.specs.Courses.{decisionOf, noncesOf, isListed, rowOf}

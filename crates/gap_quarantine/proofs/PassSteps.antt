@@ -10,12 +10,11 @@ use lib.ListN.{length, take, length-map}
 use borrow.Author.Tests.{le-ltb, ltb-false}
 use Rattle.lists.specs.Bytes.{Bytes}
 use Rattle.lists.specs.Lists.{keep, collect, written}
-use Rattle.refusal.specs.declared.Refusal.{Refusal}
 use Rattle.refusal.specs.declared.Refusal.the-variants.{ShortSlice}
 use Rattle.store_rules.specs.Frames.{Entry, Guard}
 use Rattle.store_rules.specs.Rules.{onlyOf, evictRule, reorgRule, finalRule}
 use Rattle.store_rules.specs.Store.{Store, Call, long, Answer, frames, dead, Walked, walk, walked, effect, inputRefusal, roomRefusal, refusal, when, unless, listed, step}
-use Rattle.store_rules.specs.Answers.{saysFrames, saysDead, said, numbersOf, bytesOf, ticketNumbers, deadNumbers, deadBytes}
+use Rattle.store_rules.specs.Answers.{saysFrames, saysDead, saysRefused, said, numbersOf, bytesOf, ticketNumbers, deadNumbers, deadBytes}
 use Rattle.store_rules.specs.View.{entriesSeen, hashOf, guardsSeen, heldView, labelsOf, liveOf, Bodies}
 use Rattle.store_rules.proofs.Walking.{Ends}
 use Rattle.decisions.specs.Selections.{callBy, callOf, selected, selectRule, deadOf, numberWidth, byteWidth, numbersFor, bytesFor}
@@ -97,10 +96,10 @@ said-of OfSender n l e = ap saysFrames (e ∙ sym (length-map l (λ x. x .frame)
 said-of Reorganised n l e = ap saysFrames (e ∙ sym (length-map l (λ x. x .frame)))
 said-of Finalized n l e = ap saysDead (e ∙ sym (length-map l deadOf))
 
-never-refused : (by : Selecting) (n : ℕ) (x : Refusal) → answered by n ≡ Refused x → ⊥
-never-refused OfSender n x e = let z : _≡_ {A = ℕ} 0 1 = cc in omega arith
-never-refused Reorganised n x e = let z : _≡_ {A = ℕ} 0 1 = cc in omega arith
-never-refused Finalized n x e = let z : _≡_ {A = ℕ} 0 1 = cc in omega arith
+never-refused : (by : Selecting) (n m : ℕ) → heard (answered by n) ≡ saysRefused m → ⊥
+never-refused OfSender n m e = let z : _≡_ {A = ℕ} 0 1 = cc in omega arith
+never-refused Reorganised n m e = let z : _≡_ {A = ℕ} 0 1 = cc in omega arith
+never-refused Finalized n m e = let z : _≡_ {A = ℕ} 0 1 = cc in omega arith
 
 -- ---- the call
 
@@ -140,7 +139,7 @@ module _ (q : Held) (s : Selection) (numbers bytes : List ℕ) (count : ℕ) (co
         answer = rw (u, t) (said-of (s .by) n _ (many ∙ ap length (pass .listed)));
         numbersAfter = rw (u, t, numbers-of (s .by)) (a ∙ rw (pass .listed));
         bytesAfter = rw (u, t, bytes-of (s .by)) (b ∙ rw (pass .listed));
-        kept = λ x e. absurd (never-refused (s .by) n x e);
+        kept = λ m e. absurd (never-refused (s .by) n m e);
       }
 
 -- neither slice is too short

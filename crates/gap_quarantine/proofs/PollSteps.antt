@@ -14,7 +14,8 @@ use Rattle.refusal.specs.declared.Refusal.the-variants.{ManyKnown, BadContent, 
 use Rattle.store_rules.specs.Frames.{Entry, Guard, Row}
 use Rattle.store_rules.specs.Poll.{Content, pollRule}
 use Rattle.store_rules.specs.Rules.{onlyOf}
-use Rattle.store_rules.specs.Store.{Call, poll, long, rowWidth, walk, walked, effect, entriesOf, when, badContent, inputRefusal, roomRefusal, refusal, unless, step}
+use Rattle.store_rules.specs.Lookup.{entriesOf}
+use Rattle.store_rules.specs.Store.{Call, poll, long, rowWidth, walk, walked, effect, when, badContent, inputRefusal, roomRefusal, refusal, unless, step}
 use Rattle.store_rules.specs.Answers.{rowNumbers, numbersOf, bytesOf, saysRows, said}
 use Rattle.store_rules.specs.View.{entriesSeen, guardsSeen, contentOf, labelsOf, liveOf, Bodies}
 use Rattle.store_rules.proofs.Walking.{Ends}

@@ -15,7 +15,8 @@ use Rattle.lists.proofs.Compacting.{clamp}
 use Rattle.store_rules.specs.Frames.{Entry}
 use Rattle.store_rules.specs.Poll.{Content, stay, leave, pollRule}
 use Rattle.store_rules.specs.Rules.{onlyOf}
-use Rattle.store_rules.specs.Store.{poll, long, guardOf, dropGuard, entriesOf, badContent}
+use Rattle.store_rules.specs.Lookup.{entriesOf}
+use Rattle.store_rules.specs.Store.{poll, long, guardOf, dropGuard, badContent}
 use Rattle.store_rules.specs.Answers.{rowNumbers}
 use Rattle.store_rules.specs.View.{frameOf, entryOf, entriesSeen, labelsOf, liveOf, Bodies, bodiesOf}
 use Rattle.store_rules.proofs.InPlace.{Going, start, silent, one-left, number-room, kept, left, done}

@@ -7,42 +7,48 @@ use lib.ListN.{length}
 use Rattle.lists.specs.Bytes.{Bytes, leBytes}
 use Rattle.lists.specs.Lists.{written}
 use Rattle.refusal.specs.Numbers.{refusalNumber}
-use Rattle.refusal.specs.declared.Refusal.{Refusal}
-use Rattle.store_rules.specs.Store.{Store, Call, long, Request, step}
+use Rattle.store_rules.specs.Frames.{Consumed}
+use Rattle.store_rules.specs.Store.{Store, Call, enterTentative, long, Request, step}
 use Rattle.store_rules.specs.Answers.{Said, saysTotal, saysRows, saysRecorded, saysEntered, saysFrames, saysDead, saysRefused, said, numbersOf, bytesOf}
 use Rattle.store_rules.specs.View.{Bodies, bodiesOf, heldView}
 use Rattle.store_rules.specs.declared.Entry.{Entry}
 use Rattle.store_rules.specs.declared.Held.{Held}
+use Rattle.store_rules.specs.declared.lookup.Whose.{Whose}
 use Rattle.decisions.specs.declared.selection.Selecting.{Selecting}
 use Rattle.decisions.specs.declared.selection.Selecting.the-variants.{OfSender, Reorganised, Finalized}
 use Rattle.gap_quarantine.specs.declared.Quarantine.{Quarantine}
 use Rattle.gap_quarantine.specs.declared.Answer.{Answer}
-use Rattle.gap_quarantine.specs.declared.Answer.the-variants.{Total, Rows, Recorded, Entered, Frames, Dead, Refused}
+use Rattle.gap_quarantine.specs.declared.Answer.the-variants.{Total, Rows, Recorded, Frames, Dead, Refused}
 use Rattle.gap_quarantine.specs.declared.Answered.{Answered}
 use Rattle.gap_quarantine.specs.declared.Outcome.{Outcome}
+use Rattle.gap_quarantine.specs.declared.Entered.{Entered}
+use Rattle.gap_quarantine.specs.declared.EnteredStore.{EnteredStore}
 
 -- what a coded answer says
 abbrev pub heard : Answer → Said
 heard (Total n) = saysTotal n
 heard (Rows n) = saysRows n
 heard Recorded = saysRecorded
-heard (Entered b) = saysEntered b
 heard (Frames n) = saysFrames n
 heard (Dead n) = saysDead n
 heard (Refused x) = saysRefused (refusalNumber x)
+
+-- what entering says
+abbrev pub heardEntering : Whose → Said
+heardEntering w = saysEntered (w .found) (w .sender) (w .place)
 
 -- a call that is lent these slices
 abbrev pub asked : Call → List ℕ → List ℕ → Request
 asked call numbers bytes = record { call = call; form = long; numbers = length numbers; bytes = length bytes }
 
--- A call is its step: the store, the answer and the lent slices, whole; a refusal returns the very store. `view` says how the
+-- A call is its step: the store, what is said and the lent slices, whole; a refusal returns the very store. `view` says how the
 -- definitions see the store's value.
-pub record Steps {S : Type 0} (view : S → Store) (q : S) (call : Call) (numbers bytes : List ℕ) (a : Answer) (q′ : S) (numbers′ bytes′ : List ℕ) : Type 0 where
+pub record Steps {S : Type 0} (view : S → Store) (q : S) (call : Call) (numbers bytes : List ℕ) (a : Said) (q′ : S) (numbers′ bytes′ : List ℕ) : Type 0 where
   pub store : view q′ ≡ step (view q) (asked call numbers bytes) .0
-  pub answer : heard a ≡ said (step (view q) (asked call numbers bytes) .1)
+  pub answer : a ≡ said (step (view q) (asked call numbers bytes) .1)
   pub numbersAfter : numbers′ ≡ written (numbersOf long (step (view q) (asked call numbers bytes) .1)) numbers
   pub bytesAfter : bytes′ ≡ written (bytesOf (step (view q) (asked call numbers bytes) .1)) bytes
-  pub kept : (x : Refusal) → a ≡ Refused x → q′ ≡ q
+  pub kept : (n : ℕ) → a ≡ saysRefused n → q′ ≡ q
 
 -- ---- the store as one value
 
@@ -50,17 +56,25 @@ abbrev pub viewOf : Quarantine → Store
 viewOf q = heldView (bodiesOf (q .«guard_numbers») (q .«guard_contents»)) (q .held)
 
 abbrev pub Performs : Quarantine → Call → List ℕ → List ℕ → Answered → List ℕ → List ℕ → Type 0
-Performs q call numbers bytes r = Steps viewOf q call numbers bytes (r .answer) (r .store)
+Performs q call numbers bytes r = Steps viewOf q call numbers bytes (heard (r .answer)) (r .store)
+
+-- entering
+abbrev pub Enters : Quarantine → Bytes → Consumed → EnteredStore → Type 0
+Enters q hash c r = Steps viewOf q (enterTentative hash c) [] [] (heardEntering (r .whose)) (r .store) [] []
 
 -- ---- the held part
 
 -- with these bodies
 abbrev pub HeldPerforms : Bodies → Held → Call → List ℕ → List ℕ → Outcome → List ℕ → List ℕ → Type 0
-HeldPerforms bodies h call numbers bytes r = Steps (heldView bodies) h call numbers bytes (r .answer) (r .held)
+HeldPerforms bodies h call numbers bytes r = Steps (heldView bodies) h call numbers bytes (heard (r .answer)) (r .held)
 
 -- whatever the bodies are: the call neither reads nor writes them
 abbrev pub Always : Held → Call → List ℕ → List ℕ → Outcome → List ℕ → List ℕ → Type 0
 Always h call numbers bytes r numbers′ bytes′ = (bodies : Bodies) → HeldPerforms bodies h call numbers bytes r numbers′ bytes′
+
+-- entering, whatever the bodies are
+abbrev pub EntersAlways : Held → Bytes → Consumed → Entered → Type 0
+EntersAlways h hash c r = (bodies : Bodies) → Steps (heldView bodies) h (enterTentative hash c) [] [] (heardEntering (r .whose)) (r .held) [] []
 
 -- the bodies are those that lie in the arrays, if content came; without content no body is read
 abbrev pub Lent : Bool → List ℕ → Bytes → Bodies → Type 0

@@ -12,9 +12,9 @@ ghost use mathlib.Core.Bool.{true};
 ghost use mathlib.Core.List.{[]};
 ghost use mathlib.Core.Option.{none};
 ghost use Rattle.store_rules.specs.Frames.{reparked, unhydratable};
-ghost use Rattle.store_rules.specs.Store.{empty, push, poll, guard, enterTentative, evictSender, checkReorg, checkFinalized};
+ghost use Rattle.store_rules.specs.Store.{empty, push, poll, guard, evictSender, checkReorg, checkFinalized};
 ghost use Rattle.store_rules.specs.View.{consumedOf, frameOf, kindOf, contentOf, hashOf};
-ghost use Rattle.gap_quarantine.specs.Contracts.{viewOf, Performs};
+ghost use Rattle.gap_quarantine.specs.Contracts.{viewOf, Performs, Enters};
 use refusal::Refusal;
 
 mod entering; // entering.rt: entering the tentative state
@@ -52,10 +52,11 @@ pub use store_rules::HeldHead;
 pub use store_rules::NonceConsumed;
 pub use store_rules::ParkedFrame;
 pub use store_rules::RescueKind;
+pub use store_rules::Whose;
 
 // ---- answers
 
-// What a call answers: each its own case, or a refusal.
+// What a call answers: each its own case, or a refusal. Entering answers whose the frame is that entered (`Whose`).
 pub enum Answer {
     // the frames held after a push
     Total(usize),
@@ -63,8 +64,6 @@ pub enum Answer {
     Rows(usize),
     // a guard was recorded
     Recorded,
-    // whether a frame entered the tentative state
-    Entered(bool),
     // the frames that an eviction or a reorganisation lists
     Frames(usize),
     // the frames that finality ends
@@ -81,6 +80,18 @@ pub struct Outcome {
 // An answer, and the store after the call.
 pub struct Answered {
     pub answer: Answer,
+    pub store: Quarantine,
+}
+
+// Whose the frame is that entered the tentative state, if one was found, and the held part after the call.
+pub struct Entered {
+    pub whose: Whose,
+    pub held: Held,
+}
+
+// The same, and the store after the call.
+pub struct EnteredStore {
+    pub whose: Whose,
     pub store: Quarantine,
 }
 
@@ -228,18 +239,26 @@ impl Quarantine {
         self.record_guard(RescueKind::Unhydratable, hash, preds, contents)
     }
 
-    // Makes the first tracked entry of a hash tentative, and drops the hash's guard; false if there is none.
+    // Makes the first tracked entry of a hash tentative, drops the hash's guard, and answers whose it is; not found if there is
+    // none.
     pub fn enter_tentative(
-        self,
+        mut self,
         hash: [u8; 32],
         consumed: NonceConsumed,
         block_hash: [u8; 32],
         taker: [u8; 32],
-    ) -> Answered
-        ensures { λ r. ⌜ Performs self (enterTentative hash (consumedOf consumed «block_hash» taker)) [] [] r [] [] ⌝ }
+    ) -> EnteredStore
+        ensures { λ r. ⌜ Enters self hash (consumedOf consumed «block_hash» taker) r ⌝ }
     {
         let held = self.held;
-        self.after(enter_tentative(held, hash, consumed, block_hash, taker))
+        let r = enter_tentative(held, hash, consumed, block_hash, taker);
+        let after = r.held;
+        let whose = r.whose;
+        self.held = after;
+        EnteredStore {
+            whose: whose,
+            store: self,
+        }
     }
 
     // Removes the entries of a sender, and lists their tickets.

@@ -2,7 +2,7 @@
 ghost use mathlib.Core.Path.{_≡_};
 ghost use Rattle.lists.specs.Lists.{isEmpty};
 ghost use Rattle.queries.specs.Queries.{stateOf, expectedBoundary, len, tentativeCount, hasGuardForSender};
-ghost use Rattle.queries.specs.Contracts.{stateShown, boundarySeen, BlocksRead, SendersRead, GapRead};
+ghost use Rattle.queries.specs.Contracts.{stateShown, boundaryShown, BlocksRead, SendersRead, GapRead};
 ghost use Rattle.gap_quarantine.specs.Contracts.{viewOf};
 use super::Quarantine;
 use queries::Boundary;
@@ -10,7 +10,7 @@ use queries::HeldState;
 use queries::Listed;
 
 impl Quarantine {
-    // The state of the first frame of a hash.
+    // The state of the first frame of a hash, and whose it is.
     pub fn state(self, hash: [u8; 32]) -> HeldState
         ensures { λ r. ⌜ r ≡ stateShown (stateOf hash (viewOf self)) ⌝ }
     {
@@ -18,9 +18,9 @@ impl Quarantine {
         queries::state(held, hash)
     }
 
-    // The expected nonce of the first frame of a hash.
+    // The expected nonce of the first frame of a hash, and whose it is.
     pub fn expected_boundary(self, hash: [u8; 32]) -> Boundary
-        ensures { λ r. ⌜ boundarySeen r ≡ expectedBoundary hash (viewOf self) ⌝ }
+        ensures { λ r. ⌜ r ≡ boundaryShown (expectedBoundary hash (viewOf self)) ⌝ }
     {
         let held = self.held;
         queries::expected_boundary(held, hash)

@@ -12,7 +12,8 @@ use Rattle.store_rules.specs.Frames.{Frame, Entry, Guard, Visit}
 use Rattle.store_rules.specs.Poll.{pollRule}
 use Rattle.store_rules.specs.Rules.{onlyOf, evictRule, reorgRule, finalRule}
 use Rattle.lists.specs.Lists.{keep}
-use Rattle.store_rules.specs.Store.{Store, RowForm, SameStore, guardOf, dropGuard, putGuard, Call, push, poll, guard, enterTentative, evictSender, checkReorg, checkFinalized, Answer, total, rows, recorded, entered, frames, dead, refused, after, walk, walked, insert, fresh, enterFirst, anyEnters, effect, when, inputRefusal, roomRefusal, unless, Request, refusal, step, run, calls}
+use Rattle.store_rules.specs.Lookup.{enters, whoseFound, lookup, isFound, enterFirst}
+use Rattle.store_rules.specs.Store.{Store, RowForm, SameStore, guardOf, dropGuard, putGuard, Call, push, poll, guard, enterTentative, evictSender, checkReorg, checkFinalized, Answer, total, rows, recorded, entered, frames, dead, refused, after, walk, walked, insert, fresh, effect, when, inputRefusal, roomRefusal, unless, Request, refusal, step, run, calls}
 use Rattle.order_rule.specs.Orders.{shown, transcript, aboutRoom, EnoughRoom}
 
 abbrev pub Guards : Type 0
@@ -59,8 +60,10 @@ unfoldable pub effectᵢ : Ideal → Call → Ideal × Answer
 effectᵢ s (push f) = (record { entries = insert (fresh f) (s .entries); guards = s .guards }, total (suc (length (s .entries))))
 effectᵢ s (poll a head known content) = trailed (trail (onlyOf a (pollRule head known content)) (s .entries) (s .guards)) rows
 effectᵢ s (guard g) = (record { entries = s .entries; guards = with′ g (s .guards) }, recorded)
-effectᵢ s (enterTentative h c) =
-    (record { entries = enterFirst h c (s .entries); guards = dropIf (anyEnters h (s .entries)) h (s .guards) }, entered (anyEnters h (s .entries)))
+effectᵢ s (enterTentative h c) = (
+  record { entries = enterFirst h c (s .entries); guards = dropIf (isFound (lookup (enters h) (s .entries))) h (s .guards) },
+  entered (whoseFound (lookup (enters h) (s .entries))),
+)
 effectᵢ s (evictSender a) = trailed (trail (onlyOf a evictRule) (s .entries) (s .guards)) frames
 effectᵢ s (checkReorg b canonical) = trailed (trail (reorgRule b canonical) (s .entries) (s .guards)) frames
 effectᵢ s (checkFinalized n) = trailed (trail (finalRule n) (s .entries) (s .guards)) dead
@@ -160,8 +163,8 @@ effect-view s (push f) = refl
 effect-view s (poll a head known content) = walked-view (onlyOf a (pollRule head known content)) (s .entries) (s .guards) rows
 effect-view s (guard g) = ap (λ (G : Guards). (record { entries = s .entries; guards = G }, recorded)) (with-view g (s .guards))
 effect-view s (enterTentative h c) =
-    ap (λ (G : Guards). (record { entries = enterFirst h c (s .entries); guards = G }, entered (anyEnters h (s .entries))))
-    (dropIf-view (anyEnters h (s .entries)) h (s .guards))
+    ap (λ (G : Guards). (record { entries = enterFirst h c (s .entries); guards = G }, entered (whoseFound (lookup (enters h) (s .entries)))))
+    (dropIf-view (isFound (lookup (enters h) (s .entries))) h (s .guards))
 effect-view s (evictSender a) = walked-view (onlyOf a evictRule) (s .entries) (s .guards) frames
 effect-view s (checkReorg b canonical) = walked-view (reorgRule b canonical) (s .entries) (s .guards) frames
 effect-view s (checkFinalized n) = walked-view (finalRule n) (s .entries) (s .guards) dead
@@ -207,7 +210,7 @@ unfolding shown aboutRoom
 room-shown (total n) = refl
 room-shown (rows l) = refl
 room-shown recorded = refl
-room-shown (entered b) = refl
+room-shown (entered w) = refl
 room-shown (frames l) = refl
 room-shown (dead l) = refl
 room-shown (refused n) = refl

@@ -8,7 +8,9 @@ use Prim.Native.Nat.{ℕ}
 use Rattle.lists.specs.Bytes.{Bytes, leBytes}
 use Rattle.lists.proofs.ByteOrder.{leBytes-trans, leBytes-total}
 use Rattle.store_rules.specs.Frames.{Frame, Consumed, Standing, Entry, Guard, Visit}
-use Rattle.store_rules.specs.Store.{NotBefore, Sorted, Call, push, poll, guard, enterTentative, evictSender, checkReorg, checkFinalized, after, insert, fresh, enters, enterWith, enterFirst, inputRefusal}
+use Rattle.store_rules.specs.Lookup.{enters, enterWith, enterFirst}
+use Rattle.store_rules.proofs.Lookups.{lookup-nil, enter-cons, enter-none}
+use Rattle.store_rules.specs.Store.{NotBefore, Sorted, Call, push, poll, guard, enterTentative, evictSender, checkReorg, checkFinalized, after, insert, fresh, inputRefusal}
 use Rattle.order_rule.specs.Orders.{Key, sender}
 use Rattle.lists.specs.Lists.{Each}
 use Rattle.lists.proofs.Keeping.{each-map}
@@ -50,9 +52,9 @@ trail-thinner rule [] G = nothing
 trail-thinner rule (e ∷ es) G = after-thinner (rule (G (e .frame .hash)) e .stays) e (trail-thinner rule es _)
 
 enter-thinner : (h : Bytes) (c : Consumed) (es : List Entry) → Thinner (enterFirst h c es) es
-unfolding enterFirst enterWith
-enter-thinner h c [] = nothing
-enter-thinner h c (e ∷ es) = go (enters h e) (enter-thinner h c es)
+unfolding enterWith
+enter-thinner h c [] = rw (enter-none h c [] (lookup-nil (enters h))) nothing
+enter-thinner h c (e ∷ es) = rw (enter-cons h c e es) (go (enters h e) (enter-thinner h c es))
   where
     go : (b : Bool) → Thinner (enterFirst h c es) es → Thinner (cond b (enterWith c e ∷ es) (e ∷ enterFirst h c es)) (e ∷ es)
     go true t = also refl (thinner-refl es)

@@ -2,7 +2,7 @@
 -- to the part what it does to the whole, with the same answer (`own-step`); a call of another key leaves the part as it was
 -- (`other-step`).
 use mathlib.Core.Path.{_≡_, refl, sym, ap, ap₂, _∙_, subst, fun-ext}
-use mathlib.Core.Bool.{Bool, true, false, cond, _&&_, _||_, false≢true}
+use mathlib.Core.Bool.{Bool, true, false, cond, _&&_, false≢true}
 use mathlib.Core.List.{List, [], _∷_, _++_}
 use mathlib.Core.Option.{Option, none, some, Option·some-injective, Option·none-ne-some}
 use Prim.Native.Nat.{ℕ}
@@ -11,10 +11,12 @@ use Rattle.lists.proofs.ByteOrder.{eqBytes-refl, eqBytes-true, leBytes-refl, cl
 use Rattle.store_rules.specs.Frames.{Consumed, Standing, Entry, Guard, Visit}
 use Rattle.store_rules.specs.Poll.{stay, pollRule}
 use Rattle.store_rules.specs.Rules.{onlyOf, evictRule}
-use Rattle.store_rules.specs.Store.{NotBefore, Sorted, Call, push, poll, guard, enterTentative, evictSender, checkReorg, checkFinalized, Answer, total, rows, recorded, entered, frames, after, insert, fresh, enters, enterWith, enterFirst, anyEnters, inputRefusal}
+use Rattle.store_rules.specs.Lookup.{enters, Found, whoseFound, lookup, isFound, enterWith, enterFirst}
+use Rattle.store_rules.proofs.Lookups.{lookup-nil, enter-cons, enter-none, lookup-keep}
+use Rattle.store_rules.specs.Store.{NotBefore, Sorted, Call, push, poll, guard, enterTentative, evictSender, checkReorg, checkFinalized, Answer, total, rows, recorded, entered, frames, after, insert, fresh, inputRefusal}
 use Rattle.order_rule.specs.Orders.{Key, sender, alone, eqKey, keyBy, shown}
 use Rattle.lists.specs.Lists.{keep, Each}
-use Rattle.lists.proofs.Keeping.{keep-yes, keep-no, keep-cong}
+use Rattle.lists.proofs.Keeping.{keep-yes, keep-no, keep-cong, each-map}
 use Rattle.order_rule.proofs.Ideal.{Ideal, Guards, without, with′, dropIf, Trail, behind, trail, trailed, effectᵢ, unlessᵢ, stepᵢ}
 use Rattle.order_rule.proofs.Invariant.{OwnedFrame, Owned, OwnedCall, Good}
 
@@ -240,25 +242,27 @@ module _ (owner : Bytes → Key) where
   unfolding mine
   enters-mine h e k o t = ap (λ (j : Key). eqKey j k) (sym o ∙ ap owner (enters-hash h e t))
 
-  enter-own : (h : Bytes) (c : Consumed) (k : Key) → owner h ≡ k → (es : List Entry) → Owned owner es →
-      (enterFirst h c (keep (mine k) es) ≡ keep (mine k) (enterFirst h c es)) × (anyEnters h (keep (mine k) es) ≡ anyEnters h es)
-  unfolding enterFirst anyEnters keep mine enterWith
-  enter-own h c k w [] o = (refl, refl)
-  enter-own h c k w (e ∷ es) o = go (mine k e) refl (enters h e) refl (enter-own h c k w es (o .1))
+  -- the key's part has the same first entry, and it is whose it was
+  lookup-own : (h : Bytes) (k : Key) → owner h ≡ k → (es : List Entry) → Owned owner es → lookup (enters h) (keep (mine k) es) ≡ lookup (enters h) es
+  unfolding mine
+  lookup-own h k w es o = lookup-keep (enters h) (λ a. eqKey (sender a) k) es (each-map _ _ es (λ e p t. enters-mine h e k p t ∙ ap (λ (j : Key). eqKey j k) w ∙ eqKey-refl k) o)
+
+  enter-own : (h : Bytes) (c : Consumed) (k : Key) → owner h ≡ k → (es : List Entry) → Owned owner es → enterFirst h c (keep (mine k) es) ≡ keep (mine k) (enterFirst h c es)
+  unfolding keep mine enterWith
+  enter-own h c k w [] o = rw (enter-none h c [] (lookup-nil (enters h)))
+  enter-own h c k w (e ∷ es) o = rw (enter-cons h c e es) (go (mine k e) refl (enters h e) refl (enter-own h c k w es (o .1)))
     where
-      go : (m : Bool) → mine k e ≡ m → (t : Bool) → enters h e ≡ t →
-          (enterFirst h c (keep (mine k) es) ≡ keep (mine k) (enterFirst h c es)) × (anyEnters h (keep (mine k) es) ≡ anyEnters h es) →
-          (enterFirst h c (cond m (e ∷ keep (mine k) es) (keep (mine k) es)) ≡ keep (mine k) (cond t (enterWith c e ∷ es) (e ∷ enterFirst h c es)))
-          × (anyEnters h (cond m (e ∷ keep (mine k) es) (keep (mine k) es)) ≡ (t || anyEnters h es))
-      go true p true q ih = rw (p, q) (refl, refl)
-      go true p false q ih = rw (p, q) (ap (λ (l : List Entry). e ∷ l) (ih .0), ih .1)
+      go : (m : Bool) → mine k e ≡ m → (t : Bool) → enters h e ≡ t → enterFirst h c (keep (mine k) es) ≡ keep (mine k) (enterFirst h c es) →
+          enterFirst h c (cond m (e ∷ keep (mine k) es) (keep (mine k) es)) ≡ keep (mine k) (cond t (enterWith c e ∷ es) (e ∷ enterFirst h c es))
+      go true p true q ih = rw (enter-cons h c e (keep (mine k) es), p, q)
+      go true p false q ih = rw (enter-cons h c e (keep (mine k) es), p, q) (ap (λ (l : List Entry). e ∷ l) ih)
       go false p true q ih = clash (enters-mine h e k (o .0) q ∙ ap (λ (j : Key). eqKey j k) w ∙ eqKey-refl k) p
       go false p false q ih = rw p ih
 
   enter-other : (h : Bytes) (c : Consumed) (k : Key) → eqKey (owner h) k ≡ false → (es : List Entry) → Owned owner es → keep (mine k) (enterFirst h c es) ≡ keep (mine k) es
-  unfolding enterFirst keep mine enterWith
-  enter-other h c k n [] o = refl
-  enter-other h c k n (e ∷ es) o = go (enters h e) refl (enter-other h c k n es (o .1))
+  unfolding keep mine enterWith
+  enter-other h c k n [] o = rw (enter-none h c [] (lookup-nil (enters h)))
+  enter-other h c k n (e ∷ es) o = rw (enter-cons h c e es) (go (enters h e) refl (enter-other h c k n es (o .1)))
     where
       go : (t : Bool) → enters h e ≡ t → keep (mine k) (enterFirst h c es) ≡ keep (mine k) es →
           keep (mine k) (cond t (enterWith c e ∷ es) (e ∷ enterFirst h c es)) ≡ keep (mine k) (e ∷ es)
@@ -302,10 +306,12 @@ module _ (owner : Bytes → Key) where
   own-effect s h (guard g) o k e =
       ap (λ (G : Guards). (record { entries = keep (mine k) (s .entries); guards = G }, recorded)) (only-with k g (s .guards) (Option·some-injective (owner (g .hash)) k e))
   own-effect s h (enterTentative x c) o k e =
-      let r = enter-own x c k (Option·some-injective (owner x) k e) (s .entries) (h .owned) in
-      ap₂ (λ (l : List Entry) (b : Bool). (record { entries = l; guards = only k (dropIf b x (s .guards)) }, entered b)) (sym (r .0)) (sym (r .1))
-      ∙ ap (λ (G : Guards). (record { entries = enterFirst x c (keep (mine k) (s .entries)); guards = G }, entered (anyEnters x (keep (mine k) (s .entries)))))
-      (only-dropIf k (anyEnters x (keep (mine k) (s .entries))) x (s .guards))
+      let w = Option·some-injective (owner x) k e in
+      let own : List Entry = keep (mine k) (s .entries) in
+      ap₂ (λ (l : List Entry) (o : Option Found). (record { entries = l; guards = only k (dropIf (isFound o) x (s .guards)) }, entered (whoseFound o)))
+      (sym (enter-own x c k w (s .entries) (h .owned))) (sym (lookup-own x k w (s .entries) (h .owned)))
+      ∙ ap (λ (G : Guards). (record { entries = enterFirst x c own; guards = G }, entered (whoseFound (lookup (enters x) own))))
+      (only-dropIf k (isFound (lookup (enters x) own)) x (s .guards))
   own-effect s h (evictSender a) o k e = at-key (OwnEffect s (evictSender a)) e (trailed-own s h a evictRule frames)
   own-effect s h (checkReorg b canonical) o k e = absurd (Option·none-ne-some k e)
   own-effect s h (checkFinalized n) o k e = absurd (Option·none-ne-some k e)
@@ -318,7 +324,7 @@ module _ (owner : Bytes → Key) where
   other-effect s h (guard g) j e k = at-key (λ i. eqKey i k ≡ false → OtherEffect s (guard g) k) e
       (λ n. ap (λ (G : Guards). record { entries = keep (mine k) (s .entries); guards = G }) (other-with k g (s .guards) n))
   other-effect s h (enterTentative x c) j e k = at-key (λ i. eqKey i k ≡ false → OtherEffect s (enterTentative x c) k) e
-      (λ n. ap₂ (λ (l : List Entry) (G : Guards). record { entries = l; guards = G }) (enter-other x c k n (s .entries) (h .owned)) (other-dropIf k (anyEnters x (s .entries)) x (s .guards) n))
+      (λ n. ap₂ (λ (l : List Entry) (G : Guards). record { entries = l; guards = G }) (enter-other x c k n (s .entries) (h .owned)) (other-dropIf k (isFound (lookup (enters x) (s .entries))) x (s .guards) n))
   other-effect s h (evictSender a) j e k = at-key (λ i. eqKey i k ≡ false → OtherEffect s (evictSender a) k) e (trailed-other s h a evictRule frames k)
   other-effect s h (checkReorg b canonical) j e k = absurd (Option·none-ne-some j e)
   other-effect s h (checkFinalized n) j e k = absurd (Option·none-ne-some j e)

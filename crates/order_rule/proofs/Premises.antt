@@ -9,15 +9,17 @@ use lib.Dec.{eqb}
 use lib.ListN.{length, replicate}
 use Rattle.lists.specs.Bytes.{Bytes, eqBytes, leBytes}
 use Rattle.lists.specs.Lists
+use Rattle.lists.specs.Search
 use Rattle.lists.specs.Lists.{keep}
 use Rattle.lists.proofs.ByteOrder.{clash, eqBytes-true}
 use Rattle.lists.proofs.Elements.{keep-none}
-use Rattle.store_rules.specs.Frames.{Frame, Entry, Guard, degraded}
+use Rattle.store_rules.specs.Frames.{Frame, Entry, Guard, degraded, isTracked}
 use Rattle.store_rules.specs.Poll
 use Rattle.store_rules.specs.Poll.{boundaryHolds}
 use Rattle.store_rules.specs.Rules
+use Rattle.store_rules.specs.Lookup
 use Rattle.store_rules.specs.Store
-use Rattle.store_rules.specs.Store.{empty, guardOf, isGuarded, isTracked, Call, push, Answer, Request, run, calls}
+use Rattle.store_rules.specs.Store.{empty, guardOf, isGuarded, Call, push, Answer, Request, run, calls}
 use Rattle.order_rule.specs.Orders
 use Rattle.order_rule.specs.Orders.{Key, sender, alone, pushOf, ownerIn, keyBy, OneSender, Keyed, nothing, also, rest, cut, transcript, aboutRoom, EnoughRoom}
 use Rattle.order_rule.specs.Premises
@@ -58,7 +60,7 @@ hasBoundary n (some g) = boundaryHolds (g .kind) n
 -- ---- the claims
 
 pub premises : Premises
-unfolding Store.refusal run empty Store.step Store.unless orElse Store.inputRefusal Store.roomRefusal Store.rowWidth Store.effect Store.walk Store.walked Store.insert Store.fresh Store.enterFirst Store.anyEnters Store.enters Store.enterWith isTracked guardOf isGuarded Store.dropGuard Store.putGuard Store.after Store.when Store.wideGap Store.badContent Store.badContents Store.noRoomFor Store.listed Store.entriesOf calls keep Lists.isEmpty Lists.isIn eqBytes leBytes degraded Poll.numbersFrom Poll.gap Poll.predecessors Poll.unknown boundaryHolds Poll.guardMatches Poll.stay Poll.leave Poll.pollFull Poll.pollIn Poll.pollGiven Poll.pollRule Rules.onlyOf Rules.evictRule Rules.differs Rules.reorgIn Rules.reorgRule Rules.finalIn Rules.finalRule keyBy ownerIn Orders.ownerBy pushOf transcript Orders.shown aboutRoom Orders.eqKey Orders.isFor Orders.ofKey misfits hasBoundary a b h i frame Premises.ask parks parksOf Premises.enters100 Premises.finalized100 Premises.reorganised100 Premises.polls Premises.guards guardsOf enterBefore enterAfter finalityLast finalityBetween reorgLast reorgBetween pollAfter pollBefore fiveThenSix sixThenFive evictFirst evictLast pollShort dropFirst dropLast aThenB bBetween
+unfolding Store.refusal run empty Store.step Store.unless orElse Store.inputRefusal Store.roomRefusal Store.rowWidth Store.effect Store.walk Store.walked Store.insert Store.fresh Lookup.enters Lookup.foundBehind Lookup.firstOf Lookup.lookup Lookup.isFound Lookup.enterWith Lookup.enterHead Lookup.enterFirst isTracked guardOf isGuarded Store.dropGuard Store.putGuard Store.after Store.when Store.wideGap Store.badContent Store.badContents Store.noRoomFor Store.listed Lookup.entriesOf calls keep Search.firstAt Lists.isEmpty Lists.isIn eqBytes leBytes degraded Poll.numbersFrom Poll.gap Poll.predecessors Poll.unknown boundaryHolds Poll.guardMatches Poll.stay Poll.leave Poll.pollFull Poll.pollIn Poll.pollGiven Poll.pollRule Rules.onlyOf Rules.evictRule Rules.differs Rules.reorgIn Rules.reorgRule Rules.finalIn Rules.finalRule keyBy ownerIn Orders.ownerBy pushOf transcript Orders.shown aboutRoom Orders.eqKey Orders.isFor Orders.ofKey misfits hasBoundary a b h i frame Premises.ask parks parksOf Premises.enters100 Premises.finalized100 Premises.reorganised100 Premises.polls Premises.guards guardsOf enterBefore enterAfter finalityLast finalityBetween reorgLast reorgBetween pollAfter pollBefore fiveThenSix sixThenFive evictFirst evictLast pollShort dropFirst dropLast aThenB bBetween
 premises = record {
   oneSender = (
     rest (swap (keyBy (ownerIn (calls enterBefore))) _ _ (sender b) (sender a) refl refl refl (also (sender b) refl nothing) nothing),

@@ -95,12 +95,12 @@ module _ {A : Type 0} (keyOf : A → Option Key) where
 
 -- ---- what is compared
 
--- all that a call answers (rows, lists, their number, true or false, refusal) except a push's total
+-- all that a call answers (rows, lists, their number, true or false with sender and place, refusal) except a push's total
 unfoldable pub shown : Answer → Answer
 shown (total n) = total 0
 shown (rows l) = rows l
 shown recorded = recorded
-shown (entered b) = entered b
+shown (entered w) = entered w
 shown (frames l) = frames l
 shown (dead l) = dead l
 shown (refused n) = refused n
@@ -115,7 +115,7 @@ unfoldable pub aboutRoom : Answer → Bool
 aboutRoom (total n) = false
 aboutRoom (rows l) = false
 aboutRoom recorded = false
-aboutRoom (entered b) = false
+aboutRoom (entered w) = false
 aboutRoom (frames l) = false
 aboutRoom (dead l) = false
 aboutRoom (refused n) = eqb n 2 || eqb n 5 || eqb n 8

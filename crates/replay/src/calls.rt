@@ -103,8 +103,12 @@ pub(crate) fn enter(out: &mut Output, q: Quarantine, s: &[u8]) -> Quarantine {
         _ => NonceConsumed::SlotTakenBy(block),
     };
     let r = q.enter_tentative(hash, consumed, block_hash, taker);
-    let answer = r.answer;
-    print::answer(out, answer);
+    let whose = r.whose;
+    let found = whose.found;
+    print::truth(out, found);
+    if found {
+        print::whose(out, whose);
+    }
     let store = r.store;
     store
 }

@@ -6,6 +6,7 @@ pub(crate) use console::text;
 use gap_quarantine::Answer;
 use gap_quarantine::FrameState;
 use gap_quarantine::NonceConsumed;
+use gap_quarantine::Whose;
 use refusal::Refusal;
 
 // A word and how many are listed.
@@ -75,6 +76,14 @@ pub(crate) fn state(out: &mut Output, s: FrameState, block_hash: [u8; 32], taker
     hex(out, &taker);
 }
 
+// Whose a frame is: its sender, and its place among the sender's frames.
+pub(crate) fn whose(out: &mut Output, w: Whose) {
+    let sender = w.sender;
+    text(out, b" of");
+    hex(out, &sender);
+    next(out, w.place as u64);
+}
+
 // What a call answers, before its list, and how many it lists.
 pub(crate) fn answer(out: &mut Output, a: Answer) -> usize {
     match a {
@@ -88,10 +97,6 @@ pub(crate) fn answer(out: &mut Output, a: Answer) -> usize {
         }
         Answer::Recorded => {
             text(out, b"done");
-            0
-        }
-        Answer::Entered(b) => {
-            truth(out, b);
             0
         }
         Answer::Frames(n) => {

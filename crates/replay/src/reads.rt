@@ -3,14 +3,14 @@ use super::dump;
 use super::print;
 use super::script;
 use console::Output;
-use gap_quarantine::Boundary;
 use gap_quarantine::Listed;
 use gap_quarantine::Quarantine;
 
-// The state of a frame.
+// The state of a frame, and whose it is.
 fn state(out: &mut Output, q: Quarantine, s: &[u8]) {
     let held = q.state(script::hash_at(s, 2));
-    if !held.found {
+    let whose = held.whose;
+    if !whose.found {
         print::text(out, b"none");
         return;
     }
@@ -18,17 +18,20 @@ fn state(out: &mut Output, q: Quarantine, s: &[u8]) {
     let block_hash = held.block_hash;
     let taker = held.taker;
     print::state(out, state, block_hash, taker);
+    print::whose(out, whose);
 }
 
-// The expected boundary of a frame.
+// The expected boundary of a frame, and whose it is.
 fn boundary(out: &mut Output, q: Quarantine, s: &[u8]) {
-    let found = q.expected_boundary(script::hash_at(s, 2));
-    let Boundary::Expected(n) = found else {
+    let boundary = q.expected_boundary(script::hash_at(s, 2));
+    let whose = boundary.whose;
+    if !whose.found {
         print::text(out, b"none");
         return;
-    };
+    }
     print::text(out, b"some");
-    print::next(out, n);
+    print::next(out, boundary.expected);
+    print::whose(out, whose);
 }
 
 // How many are listed, behind a word; 0 if the call was refused.

@@ -7,9 +7,11 @@ use native.Mathlib.Omega.{arith}
 use lib.Dec.{ltb}
 use Rattle.lists.specs.Bytes as bytes
 use Rattle.lists.specs.Lists as lists
+use Rattle.lists.specs.Search as search
 use Rattle.store_rules.specs.Frames as frames
 use Rattle.store_rules.specs.Poll as polls
 use Rattle.store_rules.specs.Rules as rules
+use Rattle.store_rules.specs.Lookup as lookups
 use Rattle.store_rules.specs.Store as stores
 use Rattle.store_rules.specs.Answers as answers
 use Rattle.store_rules.specs.Store.{empty, push, checkFinalized}
@@ -27,7 +29,7 @@ pub record Computed : Type 0 where
   pub ends : told (after (pushed 8) mining) (checkFinalized 100) 3 64 ≡ 1
 
 pub computed : Computed
-unfolding bytes.eqBytes bytes.leBytes lists.keep lists.isEmpty lists.isIn frames.degraded polls.numbersFrom polls.gap polls.predecessors polls.unknown polls.firstIs polls.contentsHold polls.contentMatches polls.boundaryHolds polls.guardMatches polls.stay polls.leave polls.row polls.pollFull polls.pollIn polls.pollGiven polls.pollRule rules.onlyOf rules.evictRule rules.finalIn rules.finalRule stores.empty stores.guardOf stores.dropGuard stores.putGuard stores.after stores.walk stores.walked stores.fresh stores.insert stores.isTracked stores.enters stores.enterWith stores.enterFirst stores.anyEnters stores.effect stores.when orElse stores.wideGap stores.badContent stores.badContents stores.noRoomFor stores.inputRefusal stores.entriesOf stores.listed stores.roomRefusal stores.rowWidth stores.refusal stores.unless stores.step answers.said pushed guardedBy
+unfolding bytes.eqBytes bytes.leBytes lists.keep lists.isEmpty lists.isIn frames.degraded polls.numbersFrom polls.gap polls.predecessors polls.unknown polls.firstIs polls.contentsHold polls.contentMatches polls.boundaryHolds polls.guardMatches polls.stay polls.leave polls.row polls.pollFull polls.pollIn polls.pollGiven polls.pollRule rules.onlyOf rules.evictRule rules.finalIn rules.finalRule stores.empty stores.guardOf stores.dropGuard stores.putGuard stores.after stores.walk stores.walked stores.fresh stores.insert frames.isTracked search.firstAt lookups.entriesOf lookups.enters lookups.foundBehind lookups.firstOf lookups.lookup lookups.isFound lookups.enterWith lookups.enterHead lookups.enterFirst stores.effect stores.when orElse stores.wideGap stores.badContent stores.badContents stores.noRoomFor stores.inputRefusal stores.listed stores.roomRefusal stores.rowWidth stores.refusal stores.unless stores.step answers.said pushed guardedBy
 computed =
     record {
       polled = record { store = refl; seen = refl };
@@ -48,7 +50,7 @@ pub record Polled (n : ℕ) : Type 0 where
   pub rescued : told (pushed n) rescuing 1216 0 ≡ n
 
 by-size : (a b : Bool) → Polled (sizeOf a b)
-unfolding bytes.eqBytes bytes.leBytes lists.keep lists.isEmpty lists.isIn frames.degraded polls.numbersFrom polls.gap polls.predecessors polls.unknown polls.firstIs polls.contentsHold polls.contentMatches polls.boundaryHolds polls.guardMatches polls.stay polls.leave polls.row polls.pollFull polls.pollIn polls.pollGiven polls.pollRule rules.onlyOf rules.evictRule rules.finalIn rules.finalRule stores.empty stores.guardOf stores.dropGuard stores.putGuard stores.after stores.walk stores.walked stores.fresh stores.insert stores.isTracked stores.enters stores.enterWith stores.enterFirst stores.anyEnters stores.effect stores.when orElse stores.wideGap stores.badContent stores.badContents stores.noRoomFor stores.inputRefusal stores.entriesOf stores.listed stores.roomRefusal stores.rowWidth stores.refusal stores.unless stores.step answers.said pushed guardedBy
+unfolding bytes.eqBytes bytes.leBytes lists.keep lists.isEmpty lists.isIn frames.degraded polls.numbersFrom polls.gap polls.predecessors polls.unknown polls.firstIs polls.contentsHold polls.contentMatches polls.boundaryHolds polls.guardMatches polls.stay polls.leave polls.row polls.pollFull polls.pollIn polls.pollGiven polls.pollRule rules.onlyOf rules.evictRule rules.finalIn rules.finalRule stores.empty stores.guardOf stores.dropGuard stores.putGuard stores.after stores.walk stores.walked stores.fresh stores.insert frames.isTracked search.firstAt lookups.entriesOf lookups.enters lookups.foundBehind lookups.firstOf lookups.lookup lookups.isFound lookups.enterWith lookups.enterHead lookups.enterFirst stores.effect stores.when orElse stores.wideGap stores.badContent stores.badContents stores.noRoomFor stores.inputRefusal stores.listed stores.roomRefusal stores.rowWidth stores.refusal stores.unless stores.step answers.said pushed guardedBy
 by-size true b = record { few = omega arith; waits = refl; held-back = refl; rescued = refl }
 by-size false true = record { few = omega arith; waits = refl; held-back = refl; rescued = refl }
 by-size false false = record { few = omega arith; waits = refl; held-back = refl; rescued = refl }

@@ -95,7 +95,7 @@ abbrev pub counted : Said → ℕ
 counted (saysTotal n) = n
 counted (saysRows n) = n
 counted saysRecorded = 0
-counted (saysEntered b) = cond b 1 0
+counted (saysEntered b sender place) = cond b 1 0
 counted (saysFrames n) = n
 counted (saysDead n) = n
 counted (saysRefused n) = 0

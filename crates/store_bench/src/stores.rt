@@ -32,7 +32,7 @@ pub(crate) fn sized(frames: u64) -> u8
     64
 }
 
-// How many an answer tells of: the total, how many are listed, 1 for true; 0 for a refusal.
+// How many an answer tells of: the total, or how many are listed; 0 for a refusal.
 pub(crate) fn counted(a: Answer) -> u64
     ensures { λ r. ⌜ r ≡ counted (heard a) ⌝ }
 {
@@ -40,12 +40,6 @@ pub(crate) fn counted(a: Answer) -> u64
         Answer::Total(n) => n as u64,
         Answer::Rows(n) => n as u64,
         Answer::Recorded => 0,
-        Answer::Entered(b) => {
-            if b {
-                return 1;
-            }
-            0
-        }
         Answer::Frames(n) => n as u64,
         Answer::Dead(n) => n as u64,
         Answer::Refused(_) => 0,

@@ -3,3 +3,4 @@ pub mod Gaps
 pub mod Reachable
 pub mod Placing
 pub mod Listings
+pub mod Lookups

@@ -12,9 +12,10 @@ use Rattle.lists.specs.Lists.{keep, isEmpty, Each, Pairwise, collect, isIn}
 use Rattle.lists.proofs.ByteOrder.{eqBytes-true, clash}
 use Rattle.lists.proofs.Elements.{each-keep, each-join, in-append, in-keep}
 use Rattle.lists.proofs.Pairs.{pairwise-last}
-use Rattle.store_rules.specs.Frames.{State, tracked, tentative, Frame, Entry, degraded}
+use Rattle.store_rules.specs.Frames.{State, tracked, tentative, isTracked, Frame, Entry, degraded}
 use Rattle.store_rules.specs.Poll.{gap}
-use Rattle.store_rules.specs.Store.{empty, NotBefore, Sorted, isTracked, entriesOf, wideGap, run}
+use Rattle.store_rules.specs.Lookup.{entriesOf}
+use Rattle.store_rules.specs.Store.{empty, NotBefore, Sorted, wideGap, run}
 use Rattle.queries.specs.Queries.{Block, putBlock, withBlock, blocksFrom, tentativeBlocks, isAmong, sendersFrom, senders, putNumber, putNumbers, window, poolKnownGap}
 use Rattle.store_laws.specs.Reachable.{Reachable}
 use Rattle.store_laws.specs.Listings.{hashOf, hashIn, lastHash, inWindow, EveryListing}

@@ -14,7 +14,8 @@ use Rattle.lists.proofs.ByteOrder.{eqBytes-true}
 use Rattle.lists.proofs.Elements.{length-keep}
 use Rattle.lists.proofs.Pairs.{pairwise-keep}
 use Rattle.store_rules.specs.Frames.{Frame, Entry, Guard, Visit}
-use Rattle.store_rules.specs.Store.{Store, RowForm, empty, Call, push, poll, guard, enterTentative, checkReorg, checkFinalized, evictSender, Request, Answer, guardOf, dropGuard, putGuard, walk, walked, insert, fresh, anyEnters, effect, when, wideGap, noRoomFor, inputRefusal, roomRefusal, refusal, unless, step, run}
+use Rattle.store_rules.specs.Lookup.{enters, lookup, isFound}
+use Rattle.store_rules.specs.Store.{Store, RowForm, empty, Call, push, poll, guard, enterTentative, checkReorg, checkFinalized, evictSender, Request, Answer, guardOf, dropGuard, putGuard, walk, walked, insert, fresh, effect, when, wideGap, noRoomFor, inputRefusal, roomRefusal, refusal, unless, step, run}
 use Rattle.order_rule.proofs.Ideal.{Ideal, view, seen, effectᵢ, effect-view}
 use Rattle.order_rule.proofs.Invariant.{Thinner, nothing, skip, also, thinner-each, insert-each, Change, thinned, inserted, change}
 use Rattle.order_rule.proofs.Theorem.{run-sorted}
@@ -152,7 +153,7 @@ unfolding effect walked
 effect-guards s (push f) form numbers bytes e h = h
 effect-guards s (poll a head known content) form numbers bytes e h = walk-guards _ (s .entries) (s .guards) h
 effect-guards s (guard g) form numbers bytes e h = put-guards g (s .guards) (has-room s g form numbers bytes e) h
-effect-guards s (enterTentative x c) form numbers bytes e h = drop-if (anyEnters x (s .entries)) x (s .guards) h
+effect-guards s (enterTentative x c) form numbers bytes e h = drop-if (isFound (lookup (enters x) (s .entries))) x (s .guards) h
 effect-guards s (checkReorg b canonical) form numbers bytes e h = walk-guards _ (s .entries) (s .guards) h
 effect-guards s (checkFinalized n) form numbers bytes e h = walk-guards _ (s .entries) (s .guards) h
 effect-guards s (evictSender a) form numbers bytes e h = walk-guards _ (s .entries) (s .guards) h

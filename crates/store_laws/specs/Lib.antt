@@ -1,3 +1,4 @@
 pub mod Refusals
 pub mod Reachable
 pub mod Listings
+pub mod Lookups

@@ -1,5 +1,7 @@
 pub mod InPlace
+pub mod Lookups
 pub mod Matches
 pub mod PollCases
+pub mod Searches
 pub mod Seen
 pub mod Walking

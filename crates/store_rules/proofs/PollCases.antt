@@ -6,9 +6,8 @@ use mathlib.Core.List.{List, []}
 use mathlib.Core.Option.{some}
 use lib.Dec.{ltb}
 use Rattle.lists.specs.Lists.{isEmpty}
-use Rattle.store_rules.specs.Frames.{State, tracked, tentative, Entry, degraded, rescue, nonceConsumed, stillWaiting, Row, Visit}
+use Rattle.store_rules.specs.Frames.{State, tracked, tentative, isTracked, Entry, degraded, rescue, nonceConsumed, stillWaiting, Row, Visit}
 use Rattle.store_rules.specs.Poll.{predecessors, unknown, stay, leave, row, heldAt, pollDegraded, pollFull, pollIn, pollGiven}
-use Rattle.store_rules.specs.Store.{isTracked}
 
 pub data PollCase (head : ℕ) (known : List ℕ) (guarded : Bool) (e : Entry) : Visit Row → Type 0 where
   -- rule 1

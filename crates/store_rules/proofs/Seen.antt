@@ -8,7 +8,8 @@ use lib.ListN.{length, take, length-take, length-map}
 use lib.Seq.{paste, take-length, drop-drop}
 use Rattle.lists.specs.Bytes.{Bytes, eqBytes}
 use Rattle.lists.specs.Lists.{writtenAt}
-use Rattle.store_rules.specs.Store.{isTracked, enters}
+use Rattle.store_rules.specs.Frames.{isTracked}
+use Rattle.store_rules.specs.Lookup.{enters}
 use Rattle.store_rules.specs.View.{consumedOf, entryOf, blockOf}
 use Rattle.store_rules.specs.declared.Entry as coded
 use Rattle.store_rules.specs.declared.FrameState.the-variants.{Tracked, Tentative}

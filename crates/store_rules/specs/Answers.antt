@@ -1,7 +1,8 @@
 -- What an answer comes to: its number, and the numbers and bytes that it puts into the lent slices.
 use Prim.Native.Nat.{ℕ}
-use mathlib.Core.Bool.{Bool}
+use mathlib.Core.Bool.{Bool, true, false}
 use mathlib.Core.List.{List, [], _∷_, _++_}
+use mathlib.Core.Option.{none, some}
 use lib.ListN.{length, replicate}
 use Rattle.lists.specs.Bytes.{Bytes}
 use Rattle.lists.specs.Lists.{collect, written}
@@ -50,7 +51,7 @@ unfoldable pub numbersOf : RowForm → Answer → List ℕ
 numbersOf form (total n) = []
 numbersOf form (rows l) = collect (rowNumbers form) l
 numbersOf form recorded = []
-numbersOf form (entered b) = []
+numbersOf form (entered w) = []
 numbersOf form (frames l) = collect ticketNumbers l
 numbersOf form (dead l) = collect deadNumbers l
 numbersOf form (refused n) = []
@@ -59,7 +60,7 @@ unfoldable pub bytesOf : Answer → Bytes
 bytesOf (total n) = []
 bytesOf (rows l) = []
 bytesOf recorded = []
-bytesOf (entered b) = []
+bytesOf (entered w) = []
 bytesOf (frames l) = []
 bytesOf (dead l) = collect deadBytes l
 bytesOf (refused n) = []
@@ -70,7 +71,8 @@ pub data Said : Type 0 where
   saysTotal : ℕ → Said
   saysRows : ℕ → Said
   saysRecorded : Said
-  saysEntered : Bool → Said
+  -- true or false; and sender and place, zeros where it is false
+  saysEntered : Bool → Bytes → ℕ → Said
   saysFrames : ℕ → Said
   saysDead : ℕ → Said
   saysRefused : ℕ → Said
@@ -79,7 +81,8 @@ unfoldable pub said : Answer → Said
 said (total n) = saysTotal n
 said (rows l) = saysRows (length l)
 said recorded = saysRecorded
-said (entered b) = saysEntered b
+said (entered (some w)) = saysEntered true (w .sender) (w .place)
+said (entered none) = saysEntered false (replicate 20 0) 0
 said (frames l) = saysFrames (length l)
 said (dead l) = saysDead (length l)
 said (refused n) = saysRefused n

@@ -1,6 +1,6 @@
 -- What the store holds: frames with their standing, and rescue guards; and what its calls list.
 use Prim.Native.Nat.{ℕ}
-use mathlib.Core.Bool.{Bool, _&&_}
+use mathlib.Core.Bool.{Bool, true, false, _&&_}
 use mathlib.Core.List.{List}
 use mathlib.Core.Option.{Option}
 use lib.Dec.{eqb}
@@ -33,6 +33,10 @@ pub record Consumed : Type 0 where
 pub data State : Type 0 where
   tracked : State
   tentative : Consumed → State
+
+unfoldable pub isTracked : State → Bool
+isTracked tracked = true
+isTracked (tentative c) = false
 
 -- the state, and the last held head of a degraded frame
 pub record Standing : Type 0 where

@@ -1,7 +1,9 @@
 pub mod Frames
 pub mod Poll
 pub mod Rules
+pub mod Lookup
 pub mod Store
 pub mod Answers
 pub mod View
+pub mod Searching
 pub mod Listing

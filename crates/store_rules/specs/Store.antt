@@ -11,6 +11,7 @@ use Rattle.lists.specs.Lists.{keep, isEmpty, Pairwise}
 use Rattle.store_rules.specs.Frames.{Frame, Consumed, State, tracked, tentative, Standing, Entry, Guard, Row, Dead, Visit}
 use Rattle.store_rules.specs.Poll.{Content, pollRule}
 use Rattle.store_rules.specs.Rules.{onlyOf, evictRule, reorgRule, finalRule}
+use Rattle.store_rules.specs.Lookup.{entriesOf, enters, Whose, whoseFound, lookup, isFound, enterFirst}
 
 -- Entries in walk order: ascending address, then push order. One guard a hash, in any order.
 pub record Store : Type 0 where
@@ -86,7 +87,8 @@ pub data Answer : Type 0 where
   total : ℕ → Answer
   rows : List Row → Answer
   recorded : Answer
-  entered : Bool → Answer
+  -- whose the entry is that entered, if one did
+  entered : Option Whose → Answer
   frames : List Frame → Answer
   dead : List Dead → Answer
   refused : ℕ → Answer
@@ -115,7 +117,7 @@ module _ {A : Type 0} where
   unfoldable pub walked : Walked A → (List A → Answer) → Store × Answer
   walked w answer = (record { entries = w .entries; guards = w .guards }, answer (w .listed))
 
--- ---- push and enter
+-- ---- push
 
 -- a tracked entry that was never held
 unfoldable pub fresh : Frame → Entry
@@ -126,32 +128,6 @@ unfoldable pub insert : Entry → List Entry → List Entry
 insert e [] = e ∷ []
 insert e (f ∷ fs) = cond (leBytes (f .frame .from) (e .frame .from)) (f ∷ insert e fs) (e ∷ f ∷ fs)
 
-unfoldable pub isTracked : State → Bool
-isTracked tracked = true
-isTracked (tentative c) = false
-
--- a tracked entry of this hash
-unfoldable pub enters : Bytes → Entry → Bool
-enters h e = eqBytes (e .frame .hash) h && isTracked (e .standing .state)
-
--- a tracked entry of this hash, or any entry of it
-abbrev pub sought : Bytes → Bool → Entry → Bool
-sought h true e = enters h e
-sought h false e = eqBytes (e .frame .hash) h
-
--- the held head survives
-unfoldable pub enterWith : Consumed → Entry → Entry
-enterWith c e = record { frame = e .frame; standing = record { state = tentative c; held = e .standing .held } }
-
--- the first tracked entry of this hash becomes tentative, if there is one
-unfoldable pub enterFirst : Bytes → Consumed → List Entry → List Entry
-enterFirst h c [] = []
-enterFirst h c (e ∷ es) = cond (enters h e) (enterWith c e ∷ es) (e ∷ enterFirst h c es)
-
-unfoldable pub anyEnters : Bytes → List Entry → Bool
-anyEnters h [] = false
-anyEnters h (e ∷ es) = enters h e || anyEnters h es
-
 -- ---- what a call that is not refused does
 
 unfoldable pub effect : Store → Call → Store × Answer
@@ -159,8 +135,8 @@ effect s (push f) = (record { entries = insert (fresh f) (s .entries); guards = 
 effect s (poll a head known content) = walked (walk (onlyOf a (pollRule head known content)) (s .entries) (s .guards)) rows
 effect s (guard g) = (record { entries = s .entries; guards = putGuard g (s .guards) }, recorded)
 effect s (enterTentative h c) = (
-  record { entries = enterFirst h c (s .entries); guards = cond (anyEnters h (s .entries)) (dropGuard h (s .guards)) (s .guards) },
-  entered (anyEnters h (s .entries)),
+  record { entries = enterFirst h c (s .entries); guards = cond (isFound (lookup (enters h) (s .entries))) (dropGuard h (s .guards)) (s .guards) },
+  entered (whoseFound (lookup (enters h) (s .entries))),
 )
 effect s (checkReorg b canonical) = walked (walk (reorgRule b canonical) (s .entries) (s .guards)) frames
 effect s (checkFinalized n) = walked (walk (finalRule n) (s .entries) (s .guards)) dead
@@ -198,15 +174,12 @@ inputRefusal (checkReorg b canonical) = none
 inputRefusal (checkFinalized n) = none
 inputRefusal (evictSender a) = none
 
-unfoldable pub entriesOf : Bytes → List Entry → List Entry
-entriesOf a es = keep (λ e. eqBytes (e .frame .from) a) es
-
 -- how many an answer lists
 unfoldable pub listed : Answer → ℕ
 listed (total n) = 0
 listed (rows l) = length l
 listed recorded = 0
-listed (entered b) = 0
+listed (entered w) = 0
 listed (frames l) = length l
 listed (dead l) = length l
 listed (refused n) = 0

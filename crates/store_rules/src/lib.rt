@@ -5,12 +5,15 @@ ghost use lib.ListN.{length};
 ghost use Rattle.lists.specs.Bytes.{Bytes, eqBytes};
 ghost use Rattle.store_rules.specs.Frames.{degraded};
 ghost use Rattle.store_rules.specs.Answers.{takerHash};
-ghost use Rattle.store_rules.specs.Store.{empty, sought};
-ghost use Rattle.store_rules.specs.View.{consumedOf, blockOf, frameOf, entryOf, withState, withHeld, Bodies, heldView};
+ghost use Rattle.store_rules.specs.Store.{empty};
+ghost use Rattle.store_rules.specs.View.{consumedOf, blockOf, frameOf, withState, withHeld, Bodies, heldView};
 ghost use Rattle.store_rules.specs.Listing.{Puts};
 
+mod lookup; // lookup.rt: the lookup by hash, one entry after another
 mod matching; // matching.rt: whether a guard matches a frame
 
+pub use lookup::Search;
+pub use lookup::Whose;
 pub use matching::guard_matches;
 
 // ---- frames
@@ -206,21 +209,6 @@ pub fn same_hash(a: [u8; 32], b: [u8; 32]) -> bool
     ensures { λ r. ⌜ r ≡ eqBytes a b ⌝ }
 {
     lists::same_bytes(&a[..], &b[..])
-}
-
-// Whether an entry has this hash, and is tracked where only a tracked one is sought.
-pub fn is_sought(e: Entry, hash: [u8; 32], tracked: bool) -> bool
-    ensures { λ r. ⌜ r ≡ sought hash tracked (entryOf e) ⌝ }
-{
-    if tracked {
-        let state = e.state;
-        let FrameState::Tracked = state else {
-            return false;
-        };
-    }
-    let frame = e.frame;
-    let own = frame.hash;
-    same_hash(own, hash)
 }
 
 // Whether two addresses are the same.

@@ -1,5 +1,5 @@
 use borrow.Author.Needs.{needs}
-use Rattle.store_rules.specs.Store.{enterWith}
+use Rattle.store_rules.specs.Lookup.{enterWith}
 use Rattle.gap_quarantine.proofs.entering.made_tentative.Statement.{statement}
 use Rattle.gap_quarantine.proofs.entering.made_tentative.Tie as tie
 

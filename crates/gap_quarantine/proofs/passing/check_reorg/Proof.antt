@@ -13,7 +13,7 @@ same-length : tie.Need-same-length
 same-length c = search needs
 
 returns : tie.Need-returns
-returns c = no-bytes _ _ _ _ _ _ ((c .before .before .before) .pass .ensures) (search needs)
+returns c = no-bytes _ _ _ _ _ ((c .before .before .before) .pass .result) ((c .before .before .before) .pass .ensures) (search needs)
 
 pub check-reorg-spec : {M : Type 1} → statement M
 check-reorg-spec = tie.close (tie.spec slice-aggregate-pass pass-requires same-length returns)

@@ -1,4 +1,6 @@
-use mathlib.Core.Path.{_∙_}
+use Prim.Native.Nat.{ℕ}
+use mathlib.Core.Path.{sym, ap, _∙_}
+use mathlib.Core.Bool.{Bool, cond}
 use Rattle.store_bench.specs.Loads.{noBodies}
 use Rattle.store_bench.proofs.Performing.{tells}
 use borrow.Author.Needs.{needs}
@@ -11,12 +13,17 @@ hash-at-requires c κs = search needs
 enter-tentative-requires : tie.Need-enter-tentative-requires
 enter-tentative-requires c κs = search needs
 
-counted-requires : tie.Need-counted-requires
-counted-requires c κs = search needs
+-- 1 for true
+one : Bool → ℕ
+one b = cond b 1 0
 
 returns : tie.Need-returns
-returns c = c .counted .ensures ∙ tells (c .before .enter-tentative .ensures noBodies) ∙ rw (c .before .before .hash-at .ensures)
+unfolding one
+returns c = sym (ap one (c .if1 .taken)) ∙ tells ((c .before .before) .enter-tentative .ensures noBodies) ∙ rw ((c .before .before .before) .hash-at .ensures)
+
+returns-2 : tie.Need-returns-2
+unfolding one
+returns-2 c = sym (ap one (c .if1 .left)) ∙ tells ((c .before .before) .enter-tentative .ensures noBodies) ∙ rw ((c .before .before .before) .hash-at .ensures)
 
 pub enter-once-spec : {M : Type 1} → statement M
-enter-once-spec =
-    tie.close (tie.spec hash-at-requires enter-tentative-requires counted-requires returns)
+enter-once-spec = tie.close (tie.spec hash-at-requires enter-tentative-requires returns returns-2)

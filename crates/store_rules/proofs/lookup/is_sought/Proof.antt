@@ -1,12 +1,12 @@
 use mathlib.Core.Path.{_≡_, sym, _∙_}
 use mathlib.Core.Logic.{⊎-elim}
 use Rattle.lists.specs.Bytes.{eqBytes}
-use Rattle.store_rules.specs.Store.{sought}
+use Rattle.store_rules.specs.Lookup.{sought}
 use Rattle.store_rules.specs.View.{entryOf}
 use Rattle.store_rules.proofs.Seen.{enters-tentative, enters-tracked}
 use borrow.Author.Needs.{needs}
-use Rattle.store_rules.proofs.is_sought.Statement.{statement}
-use Rattle.store_rules.proofs.is_sought.Tie as tie
+use Rattle.store_rules.proofs.lookup.is_sought.Statement.{statement}
+use Rattle.store_rules.proofs.lookup.is_sought.Tie as tie
 
 enum-told : tie.Need-enum-told
 enum-told c = search needs
