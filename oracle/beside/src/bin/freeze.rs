@@ -1,5 +1,5 @@
-//! Writes frozen answers: scripts and journals as standard input of programs, and the Rust's own answers as what they print. What
-//! is printed of records that are written again is the driver's own.
+//! Writes frozen answers: scripts and journals as standard input of programs, and the Rust's own answers as what they print. The
+//! sender and the place of an entry, and what is printed of records that are written again, are the driver's own.
 //!
 //! freeze FOLDER: writes FOLDER/scripts/stdin, FOLDER/scripts/stdout, FOLDER/journals/stdin and FOLDER/journals/stdout.
 //! The sample has document 01's examples, the scripts that the manual shows, a smallest input for each wrong rule, inputs at each
@@ -14,7 +14,7 @@ use beside::journal::{self, strength as journals};
 use beside::scratch::Scratch;
 use beside::store::answers::Answer;
 use beside::store::calls::Call;
-use beside::store::original::Original as Store;
+use beside::store::due::Due;
 use beside::store::script::{led, Script};
 use beside::store::{self, strength as stores};
 use std::collections::BTreeSet;
@@ -69,7 +69,7 @@ const WRITTEN_LINES: [&str; 7] =
 // ---- scripts
 
 fn answers(script: &Script) -> Vec<Answer> {
-    script.lines(0, &mut Store::default()).1
+    script.lines(0, &mut Due::default()).1
 }
 
 fn scripts() -> Vec<Script> {
@@ -105,7 +105,7 @@ fn freeze_scripts(folder: &Path) {
     let list = scripts();
     for (number, script) in list.iter().enumerate() {
         input.extend_from_slice(&led(&script.bytes()));
-        output.push_str(&script.lines(number, &mut Store::default()).0);
+        output.push_str(&script.lines(number, &mut Due::default()).0);
     }
     // the input breaks off in a script's length
     input.extend_from_slice(&[1, 0]);

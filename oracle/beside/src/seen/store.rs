@@ -5,9 +5,9 @@ use crate::store::answers::{Answer, Entry, Row, State};
 use crate::store::calls::{Address, Call};
 use crate::store::model::Model;
 
-/// Notes what the Rust answers to a call, made when the store was as the model has it.
+/// Notes what is answered to a call, made when the store was as the model has it.
 pub fn see_call(seen: &mut Seen, call: &Call, before: &Model, answer: &Answer) {
-    match (call, answer) {
+    match (call, answer.told()) {
         (Call::Poll { sender, head, known, .. }, Answer::Rows(rows)) => see_poll(seen, *sender, *head, known, before, rows),
         (Call::Guard(g), Answer::Done) => {
             let held = before.guards.iter().any(|held| held.hash == g.hash);
@@ -19,7 +19,7 @@ pub fn see_call(seen: &mut Seen, call: &Call, before: &Model, answer: &Answer) {
                 seen.see(Kind::DeadNone);
             }
         }
-        _ => seen.see(kind(call, answer)),
+        (_, told) => seen.see(kind(call, told)),
     }
 }
 
@@ -51,7 +51,9 @@ fn kind(call: &Call, answer: &Answer) -> Kind {
         (Call::Len, Answer::Number(n)) => either(*n == 0, Kind::LenZero, Kind::LenMore),
         (_, Answer::Number(n)) => either(*n == 0, Kind::TentativeZero, Kind::TentativeMore),
         (_, Answer::Dump(_)) => Kind::Dump,
-        (_, Answer::Rows(_) | Answer::Done | Answer::Dead(_)) => panic!("{} does not answer so", call.mark()),
+        (_, Answer::Rows(_) | Answer::Done | Answer::Dead(_) | Answer::Of(..)) => {
+            panic!("{} does not answer so", call.mark())
+        }
     }
 }
 

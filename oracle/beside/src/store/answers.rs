@@ -28,6 +28,13 @@ pub struct Guard {
     pub content: Vec<Hash>,
 }
 
+/// Whose entry a lookup by hash found: its sender, and its place among the sender's held entries in push order, from 0.
+#[derive(Clone, Copy, Debug, PartialEq, Eq)]
+pub struct Whose {
+    pub sender: Address,
+    pub place: u64,
+}
+
 /// A whole store: entries in walk order, guards in ascending order of their hash.
 #[derive(Clone, Debug, PartialEq, Eq)]
 pub struct Dump {
@@ -51,6 +58,33 @@ pub enum Answer {
     Senders(Vec<Address>),
     Dump(Dump),
     Refused(u8),
+    /// What is told of an entry that was found by its hash, and whose it is, which the Rust does not tell.
+    Of(Box<Answer>, Whose),
+}
+
+impl Answer {
+    /// The answer, with whose entry it is about if one was found.
+    pub fn of(self, whose: Option<Whose>) -> Answer {
+        match whose {
+            Some(whose) => Answer::Of(Box::new(self), whose),
+            None => self,
+        }
+    }
+
+    pub fn whose(&self) -> Option<Whose> {
+        match self {
+            Answer::Of(_, whose) => Some(*whose),
+            _ => None,
+        }
+    }
+
+    /// What the Rust tells of it.
+    pub fn told(&self) -> &Answer {
+        match self {
+            Answer::Of(answer, _) => answer,
+            answer => answer,
+        }
+    }
 }
 
 fn numbers(list: &[u64], f: &mut fmt::Formatter<'_>) -> fmt::Result {
@@ -142,6 +176,7 @@ impl fmt::Display for Answer {
                 dump.guards.iter().try_for_each(|g| write!(f, " | {g}"))
             }
             Answer::Refused(n) => write!(f, "refused {n}"),
+            Answer::Of(answer, whose) => write!(f, "{answer} of {} {}", hex(&whose.sender), whose.place),
         }
     }
 }

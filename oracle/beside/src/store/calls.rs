@@ -96,7 +96,7 @@ impl Call {
     }
 }
 
-/// Something that answers calls: the Rust, or a model of document 01.
+/// Something that answers calls: the Rust, a model of document 01, or what is due by both.
 pub trait Side {
     fn answer(&mut self, call: &Call) -> super::answers::Answer;
 }

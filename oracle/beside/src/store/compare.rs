@@ -2,6 +2,7 @@
 use super::answers::Answer;
 use super::brief::brief;
 use super::calls::{Call, Side};
+use super::due::Due;
 use super::model::Model;
 use super::original::Original;
 use super::replay::{first_difference, Batch, Replay};
@@ -14,7 +15,7 @@ use crate::seen::{see_call, Kind, Seen};
 use crate::shrink::shrink;
 use std::fmt;
 
-/// What was run, what it met, and how often the Rust and another side differed.
+/// What was run, what it met, and how often the model and our program differed from what is due.
 #[derive(Default)]
 pub struct Counts {
     pub scripts: usize,
@@ -52,14 +53,14 @@ impl<'a> Comparison<'a> {
         if !self.batch.has_room(bytes.len()) {
             self.finish();
         }
-        let (lines, answers) = script.lines(self.batch.scripts.len(), &mut Original::default());
+        let (lines, answers) = script.lines(self.batch.scripts.len(), &mut Due::default());
         self.counts.scripts += 1;
         self.counts.calls += answers.len();
         if let Some(place) = self.beside_model(&script, &answers) {
             self.counts.model += 1;
             if tell() {
                 println!("DIFFERENCE between the Rust and the model:");
-                show(&script.calls[..=place], || Box::new(Model::default()));
+                show(&script.calls[..=place], None);
             }
         }
         if self.replay.is_some() {
@@ -69,13 +70,14 @@ impl<'a> Comparison<'a> {
         }
     }
 
-    /// The first place at which the model answers something else than the Rust; up to there, what the Rust answers is seen.
+    /// The first place at which the model answers something else than the Rust, sender and place aside, which are the model's
+    /// own; up to there, what is answered is seen.
     fn beside_model(&mut self, script: &Script, answers: &[Answer]) -> Option<usize> {
         let seen = &mut self.counts.seen;
         let mut model = Model::default();
         for (place, (call, answer)) in script.calls.iter().zip(answers).enumerate() {
             see_call(seen, call, &model, answer);
-            if model.answer(call) != *answer {
+            if model.answer(call).told() != answer.told() {
                 return Some(place);
             }
         }
@@ -96,25 +98,25 @@ impl<'a> Comparison<'a> {
         if let Some((number, expected, found)) = first_difference(&batch.lines, &found) {
             self.counts.replay += 1;
             if tell() {
-                println!("DIFFERENCE between the Rust and replay: {expected:?} / {found:?}");
+                println!("DIFFERENCE between what is due and replay: {expected:?} / {found:?}");
                 show_replay(&batch.scripts[number], replay);
             }
         }
     }
 }
 
-/// The smallest script on which the Rust and our program differ, with the lines of both.
+/// The smallest script on which our program does not print what is due, with both.
 fn show_replay(script: &Script, replay: &Replay) {
     let with = |calls: &[Call]| Script { calls: calls.to_vec(), broken: script.broken.clone() };
-    let rust = |script: &Script| script.lines(0, &mut Original::default()).0;
-    let differ = |calls: &[Call]| rust(&with(calls)) != replay.lines(&with(calls));
+    let due = |script: &Script| script.lines(0, &mut Due::default()).0;
+    let differ = |calls: &[Call]| due(&with(calls)) != replay.lines(&with(calls));
     if !differ(&script.calls) {
         return println!("  the script alone shows no difference");
     }
     let smallest = with(&shrink(&script.calls, differ));
     println!("  smallest script: {}", hex(&smallest.bytes()));
     smallest.calls.iter().for_each(|call| println!("    {}", brief(call)));
-    print!("  the Rust:\n{}  replay:\n{}", rust(&smallest), replay.lines(&smallest));
+    print!("  due:\n{}  replay:\n{}", due(&smallest), replay.lines(&smallest));
 }
 
 /// Document 01's examples: the answers that it states, from the Rust and from the others. Says how many hold.
@@ -141,7 +143,7 @@ pub fn examples(replay: Option<&Replay>) -> (usize, Counts) {
 pub fn bad_inputs(replay: &Replay) -> usize {
     let script = generate::script(1);
     let before = led(&script.bytes());
-    let expected = script.lines(0, &mut Original::default()).0 + "bad input\n";
+    let expected = script.lines(0, &mut Due::default()).0 + "bad input\n";
     let long = led(&[0; SCRIPT_LIMIT + 1]);
     let tails: [&[u8]; 4] = [&[1], &[1, 0], &[1, 0, 0], &long];
     let mut differences = 0;

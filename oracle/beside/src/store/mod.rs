@@ -3,6 +3,7 @@ pub mod answers;
 mod brief;
 pub mod calls;
 pub mod compare;
+pub mod due;
 mod dump;
 pub mod examples;
 pub mod generate;

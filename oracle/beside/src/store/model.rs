@@ -1,6 +1,6 @@
-//! Document 01's store in plain Rust, written from the document: one list of entries in walk order, one list of guards.
-//! A wrong rule may be planted in it.
-use super::answers::{Answer, Dump, Entry, Guard, Row, State};
+//! Document 01's store in plain Rust, written from the document: one list of entries in walk order, one list of guards. With an
+//! entry that was found by its hash it answers sender and place, written from request 2027-02. A wrong rule may be planted in it.
+use super::answers::{Answer, Dump, Entry, Guard, Row, State, Whose};
 use super::calls::{Address, Call, Consumed, Content, Frame, GuardCall, Hash, Side};
 use super::refusals;
 use super::wrong::Wrong;
@@ -10,6 +10,14 @@ pub struct Model {
     pub entries: Vec<Entry>,
     pub guards: Vec<Guard>,
     wrong: Option<Wrong>,
+}
+
+/// Where entries of one hash stand in the walk.
+struct OfHash {
+    first: Option<usize>,
+    last: Option<usize>,
+    first_tracked: Option<usize>,
+    last_tracked: Option<usize>,
 }
 
 /// The inputs of a poll, and the guards as they stood when it began.
@@ -29,8 +37,8 @@ fn row(f: &Frame, code: u64, nonces: &[u64]) -> Row {
 }
 
 impl Model {
-    pub fn with(wrong: Wrong) -> Self {
-        Model { wrong: Some(wrong), ..Model::default() }
+    pub fn with(wrong: Option<Wrong>) -> Self {
+        Model { wrong, ..Model::default() }
     }
 
     fn plants(&self, wrong: Wrong) -> bool {
@@ -235,6 +243,26 @@ impl Model {
         true
     }
 
+    // ---- lookup by hash
+
+    fn of_hash(&self, hash: Hash) -> OfHash {
+        let all = |e: &Entry| e.frame.hash == hash;
+        let tracked = |e: &Entry| all(e) && e.state == State::Tracked;
+        OfHash {
+            first: self.entries.iter().position(all),
+            last: self.entries.iter().rposition(all),
+            first_tracked: self.entries.iter().position(tracked),
+            last_tracked: self.entries.iter().rposition(tracked),
+        }
+    }
+
+    /// The sender of an entry, and how many of the sender's entries stand before it.
+    fn whose_at(&self, index: usize) -> Whose {
+        let sender = self.entries[index].frame.from;
+        let before = self.entries[..index].iter().filter(|e| e.frame.from == sender);
+        Whose { sender, place: before.count() as u64 }
+    }
+
     // ---- the other calls that change the store
 
     fn push(&mut self, f: &Frame) -> Answer {
@@ -249,28 +277,26 @@ impl Model {
     }
 
     fn enter(&mut self, hash: Hash, consumed: Consumed) -> Answer {
-        let of_hash = |e: &Entry| e.frame.hash == hash;
-        let tracked = |e: &Entry| of_hash(e) && e.state == State::Tracked;
-        let place = match self.wrong {
-            Some(Wrong::EnterFirstOnly) => {
-                self.entries.iter().position(of_hash).filter(|i| self.entries[*i].state == State::Tracked)
-            }
-            Some(Wrong::EnterLast) => self.entries.iter().rposition(tracked),
-            _ => self.entries.iter().position(tracked),
+        let OfHash { first, first_tracked, last_tracked, .. } = self.of_hash(hash);
+        let found = match self.wrong {
+            Some(Wrong::EnterFirstOnly) => first.filter(|_| first == first_tracked),
+            Some(Wrong::EnterLast) => last_tracked,
+            _ => first_tracked,
         };
-        if place.is_some() && !self.plants(Wrong::GuardStaysAtEntering)
-            || place.is_none() && self.plants(Wrong::GuardDroppedByFailedEntering)
+        let whose = found.map(|i| self.whose_at(i));
+        if found.is_some() && !self.plants(Wrong::GuardStaysAtEntering)
+            || found.is_none() && self.plants(Wrong::GuardDroppedByFailedEntering)
         {
             self.drop_guard(hash);
         }
         let clears = self.plants(Wrong::HeldClearedByEntering);
-        if let Some(i) = place {
+        if let Some(i) = found {
             self.entries[i].state = State::Tentative(consumed);
             if clears {
                 self.entries[i].held = None;
             }
         }
-        Answer::Truth(place.is_some())
+        Answer::Truth(found.is_some()).of(whose)
     }
 
     fn reorg(&mut self, block: u64, hash: Option<Hash>) -> Answer {
@@ -338,15 +364,16 @@ impl Model {
 
     // ---- the calls that only read
 
-    fn state(&self, hash: Hash) -> Option<State> {
-        let mut found = self.entries.iter().filter(|e| e.frame.hash == hash);
-        let entry = if self.plants(Wrong::StateOfLast) { found.next_back() } else { found.next() };
-        entry.map(|e| e.state)
+    fn state(&self, hash: Hash) -> Answer {
+        let OfHash { first, last, .. } = self.of_hash(hash);
+        let found = if self.plants(Wrong::StateOfLast) { last } else { first };
+        Answer::State(found.map(|i| self.entries[i].state)).of(found.map(|i| self.whose_at(i)))
     }
 
-    fn boundary(&self, hash: Hash) -> Option<u64> {
-        let skips = |e: &Entry| self.plants(Wrong::BoundaryOfTracked) && e.state != State::Tracked;
-        self.entries.iter().find(|e| e.frame.hash == hash && !skips(e)).map(|e| e.frame.expected)
+    fn boundary(&self, hash: Hash) -> Answer {
+        let OfHash { first, first_tracked, .. } = self.of_hash(hash);
+        let found = if self.plants(Wrong::BoundaryOfTracked) { first_tracked } else { first };
+        Answer::Boundary(found.map(|i| self.entries[i].frame.expected)).of(found.map(|i| self.whose_at(i)))
     }
 
     fn blocks(&self) -> Vec<(u64, Hash)> {
@@ -410,8 +437,8 @@ impl Side for Model {
             Call::Reorg { block, hash } => self.reorg(*block, *hash),
             Call::Finality { block } => self.finality(*block),
             Call::Evict { sender } => self.evict(*sender),
-            Call::State(hash) => Answer::State(self.state(*hash)),
-            Call::Boundary(hash) => Answer::Boundary(self.boundary(*hash)),
+            Call::State(hash) => self.state(*hash),
+            Call::Boundary(hash) => self.boundary(*hash),
             Call::Blocks => Answer::Blocks(self.blocks()),
             Call::Len => Answer::Number(self.entries.len() as u64),
             Call::Senders => Answer::Senders(self.senders()),

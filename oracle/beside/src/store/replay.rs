@@ -35,7 +35,7 @@ impl Replay {
     }
 }
 
-/// Scripts gathered for one run of the program, with the lines that the Rust gives.
+/// Scripts gathered for one run of the program, with the lines that are due.
 #[derive(Default)]
 pub struct Batch {
     pub scripts: Vec<Script>,

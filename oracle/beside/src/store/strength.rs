@@ -1,67 +1,72 @@
-//! Whether a side can be told from the Rust, by which calls, and whether the random scripts tell each wrong rule from it.
+//! Whether a model can be told from what is due, by which calls, and whether the random scripts tell each wrong rule.
 use super::answers::Answer;
 use super::brief::brief;
 use super::calls::{Call, Side};
+use super::due::Due;
 use super::generate;
 use super::model::Model;
-use super::original::Original;
 use super::wrong::Wrong;
 use crate::shrink::shrink;
 
-/// The first place at which the Rust and a side differ.
-fn tells(calls: &[Call], side: &mut dyn Side) -> Option<usize> {
-    let mut original = Original::default();
-    (0..calls.len()).find(|i| original.answer(&calls[*i]) != side.answer(&calls[*i]))
+/// Whether an answer tells a model: by what the Rust tells.
+fn differ(due: &Answer, found: &Answer) -> bool {
+    due.told() != found.told()
 }
 
-/// The smallest part of a list on which the Rust and a side differ, with both answers.
-pub fn show(calls: &[Call], side: impl Fn() -> Box<dyn Side>) {
-    let smallest = shrink(calls, |calls| tells(calls, side().as_mut()).is_some());
-    let (mut original, mut other) = (Original::default(), side());
+/// The first place at which what is due tells a model.
+fn tells(calls: &[Call], wrong: Option<Wrong>) -> Option<usize> {
+    let (mut due, mut model) = (Due::default(), Model::with(wrong));
+    calls.iter().position(|call| differ(&due.answer(call), &model.answer(call)))
+}
+
+/// The smallest part of a list that tells a model, with both answers.
+pub fn show(calls: &[Call], wrong: Option<Wrong>) {
+    let smallest = shrink(calls, |calls| tells(calls, wrong).is_some());
+    let (mut due, mut model) = (Due::default(), Model::with(wrong));
     for call in &smallest {
-        let (a, b) = (original.answer(call), other.answer(call));
+        let (a, b) = (due.answer(call), model.answer(call));
         println!("    {}", brief(call));
-        if a != b {
-            println!("      the Rust: {a}");
-            println!("      other:    {b}");
+        if differ(&a, &b) {
+            println!("      due:   {a}");
+            println!("      other: {b}");
         }
     }
 }
 
-/// A smallest list of calls, from the random scripts of these seeds, that tells a wrong rule from the Rust by its answers.
+/// A smallest list of calls, from the random scripts of these seeds, that tells a wrong rule by its answers.
 pub fn smallest_for(wrong: Wrong, seed: u64, scripts: u64) -> Option<Vec<Call>> {
     (seed..seed + scripts).find_map(|next| {
         let mut calls = generate::script(next).calls;
         calls.retain(|call| *call != Call::Dump);
-        let place = tells(&calls, &mut Model::with(wrong))?;
-        Some(shrink(&calls[..=place], |calls| tells(calls, &mut Model::with(wrong)).is_some()))
+        let place = tells(&calls, Some(wrong))?;
+        Some(shrink(&calls[..=place], |calls| tells(calls, Some(wrong)).is_some()))
     })
 }
 
-/// One random script without its dumps, and what the Rust answers to it.
+/// One random script without its dumps, and what is due of it.
 pub struct Answered {
     seed: u64,
     calls: Vec<Call>,
     answers: Vec<Answer>,
 }
 
-/// The Rust's answers to so many scripts, to hold the wrong rules against.
+/// What is due of so many scripts, to hold the wrong rules against.
 pub fn answered(seed: u64, scripts: u64) -> Vec<Answered> {
     let one = |seed: u64| {
         let mut calls = generate::script(seed).calls;
         calls.retain(|call| *call != Call::Dump);
-        let mut original = Original::default();
-        let answers = calls.iter().map(|call| original.answer(call)).collect();
+        let mut due = Due::default();
+        let answers = calls.iter().map(|call| due.answer(call)).collect();
         Answered { seed, calls, answers }
     };
     (seed..seed + scripts).map(one).collect()
 }
 
-/// Tells a wrong rule from the Rust by an answer. Says in how many of the scripts it shows, and the smallest part of the first.
+/// Tells a wrong rule by an answer. Says in how many of the scripts it shows, and the smallest part of the first.
 pub fn catches(wrong: Wrong, says: &str, answered: &[Answered]) -> bool {
     let place = |a: &Answered| {
-        let mut model = Model::with(wrong);
-        a.calls.iter().zip(&a.answers).position(|(call, answer)| model.answer(call) != *answer)
+        let mut model = Model::with(Some(wrong));
+        a.calls.iter().zip(&a.answers).position(|(call, due)| differ(due, &model.answer(call)))
     };
     let caught: Vec<(&Answered, usize)> = answered.iter().filter_map(|a| place(a).map(|place| (a, place))).collect();
     let Some((first, place)) = caught.first() else {
@@ -70,6 +75,6 @@ pub fn catches(wrong: Wrong, says: &str, answered: &[Answered]) -> bool {
     };
     let (scripts, of, script) = (caught.len(), answered.len(), first.seed);
     println!("  {wrong:?}: {says}; shows in {scripts} of {of} scripts, first in script {script}, smallest:");
-    show(&first.calls[..=*place], || Box::new(Model::with(wrong)));
+    show(&first.calls[..=*place], Some(wrong));
     true
 }
