@@ -9,6 +9,8 @@ use super::wrong::Wrong;
 pub struct Model {
     pub entries: Vec<Entry>,
     pub guards: Vec<Guard>,
+    /// Every frame that was ever held, which a wrong rule counts.
+    pushed: Vec<Frame>,
     wrong: Option<Wrong>,
 }
 
@@ -258,9 +260,27 @@ impl Model {
 
     /// The sender of an entry, and how many of the sender's entries stand before it.
     fn whose_at(&self, index: usize) -> Whose {
-        let sender = self.entries[index].frame.from;
-        let before = self.entries[..index].iter().filter(|e| e.frame.from == sender);
-        Whose { sender, place: before.count() as u64 }
+        let f = &self.entries[index].frame;
+        let of_sender = |e: &&Entry| e.frame.from == f.from;
+        let before = self.entries[..index].iter().filter(of_sender);
+        let place = match self.wrong {
+            Some(Wrong::PlaceOfAll) => index,
+            Some(Wrong::PlaceOfTracked) => before.filter(|e| e.state == State::Tracked).count(),
+            Some(Wrong::PlaceOfHash) => before.filter(|e| e.frame.hash == f.hash).count(),
+            Some(Wrong::PlaceOfPushed) => {
+                self.pushed.iter().filter(|p| p.from == f.from).position(|p| p == f).expect("it was pushed")
+            }
+            Some(Wrong::PlaceFromOne) => before.count() + 1,
+            Some(Wrong::PlaceFromEnd) => self.entries[index + 1..].iter().filter(of_sender).count(),
+            _ => before.count(),
+        };
+        Whose { sender: f.from, place: place as u64 }
+    }
+
+    /// Whose the entry found is; a wrong rule tells it of another one of the hash.
+    fn whose(&self, found: Option<usize>, others: [(Wrong, Option<usize>); 2]) -> Option<Whose> {
+        let other = others.into_iter().find(|(wrong, _)| self.plants(*wrong)).and_then(|(_, other)| other);
+        found.map(|index| self.whose_at(other.unwrap_or(index)))
     }
 
     // ---- the other calls that change the store
@@ -271,6 +291,7 @@ impl Model {
             let place = self.entries.iter().position(|e| e.frame.from > f.from).unwrap_or(self.entries.len());
             let place = if self.plants(Wrong::WalkInPushOrder) { self.entries.len() } else { place };
             self.entries.insert(place, Entry { frame: f.clone(), state: State::Tracked, held: None });
+            self.pushed.push(f.clone());
         }
         let counts = |e: &&Entry| e.state == State::Tracked || !self.plants(Wrong::TotalOfTracked);
         refusal.map_or(Answer::Total(self.entries.iter().filter(counts).count() as u64), Answer::Refused)
@@ -283,7 +304,7 @@ impl Model {
             Some(Wrong::EnterLast) => last_tracked,
             _ => first_tracked,
         };
-        let whose = found.map(|i| self.whose_at(i));
+        let whose = self.whose(found, [(Wrong::EnterWhoseFirst, first), (Wrong::EnterWhoseLast, last_tracked)]);
         if found.is_some() && !self.plants(Wrong::GuardStaysAtEntering)
             || found.is_none() && self.plants(Wrong::GuardDroppedByFailedEntering)
         {
@@ -365,15 +386,17 @@ impl Model {
     // ---- the calls that only read
 
     fn state(&self, hash: Hash) -> Answer {
-        let OfHash { first, last, .. } = self.of_hash(hash);
+        let OfHash { first, last, first_tracked, .. } = self.of_hash(hash);
         let found = if self.plants(Wrong::StateOfLast) { last } else { first };
-        Answer::State(found.map(|i| self.entries[i].state)).of(found.map(|i| self.whose_at(i)))
+        let whose = self.whose(found, [(Wrong::StateWhoseLast, last), (Wrong::StateWhoseTracked, first_tracked)]);
+        Answer::State(found.map(|i| self.entries[i].state)).of(whose)
     }
 
     fn boundary(&self, hash: Hash) -> Answer {
-        let OfHash { first, first_tracked, .. } = self.of_hash(hash);
+        let OfHash { first, last, first_tracked, .. } = self.of_hash(hash);
         let found = if self.plants(Wrong::BoundaryOfTracked) { first_tracked } else { first };
-        Answer::Boundary(found.map(|i| self.entries[i].frame.expected)).of(found.map(|i| self.whose_at(i)))
+        let whose = self.whose(found, [(Wrong::BoundaryWhoseLast, last), (Wrong::BoundaryWhoseTracked, first_tracked)]);
+        Answer::Boundary(found.map(|i| self.entries[i].frame.expected)).of(whose)
     }
 
     fn blocks(&self) -> Vec<(u64, Hash)> {

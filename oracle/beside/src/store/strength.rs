@@ -8,15 +8,18 @@ use super::model::Model;
 use super::wrong::Wrong;
 use crate::shrink::shrink;
 
-/// Whether an answer tells a model: by what the Rust tells.
-fn differ(due: &Answer, found: &Answer) -> bool {
-    due.told() != found.told()
+/// Whether an answer tells a model: one with a wrong rule for sender and place by all of it, else by what the Rust tells.
+fn differ(wrong: Option<Wrong>, due: &Answer, found: &Answer) -> bool {
+    match wrong.is_some_and(Wrong::is_about_whose) {
+        true => due != found,
+        false => due.told() != found.told(),
+    }
 }
 
 /// The first place at which what is due tells a model.
 fn tells(calls: &[Call], wrong: Option<Wrong>) -> Option<usize> {
     let (mut due, mut model) = (Due::default(), Model::with(wrong));
-    calls.iter().position(|call| differ(&due.answer(call), &model.answer(call)))
+    calls.iter().position(|call| differ(wrong, &due.answer(call), &model.answer(call)))
 }
 
 /// The smallest part of a list that tells a model, with both answers.
@@ -26,7 +29,7 @@ pub fn show(calls: &[Call], wrong: Option<Wrong>) {
     for call in &smallest {
         let (a, b) = (due.answer(call), model.answer(call));
         println!("    {}", brief(call));
-        if differ(&a, &b) {
+        if differ(wrong, &a, &b) {
             println!("      due:   {a}");
             println!("      other: {b}");
         }
@@ -66,7 +69,7 @@ pub fn answered(seed: u64, scripts: u64) -> Vec<Answered> {
 pub fn catches(wrong: Wrong, says: &str, answered: &[Answered]) -> bool {
     let place = |a: &Answered| {
         let mut model = Model::with(Some(wrong));
-        a.calls.iter().zip(&a.answers).position(|(call, due)| differ(due, &model.answer(call)))
+        a.calls.iter().zip(&a.answers).position(|(call, due)| differ(Some(wrong), due, &model.answer(call)))
     };
     let caught: Vec<(&Answered, usize)> = answered.iter().filter_map(|a| place(a).map(|place| (a, place))).collect();
     let Some((first, place)) = caught.first() else {

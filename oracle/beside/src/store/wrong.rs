@@ -1,4 +1,5 @@
-//! Wrong rules for the store, each planted alone into the model; the generated scripts must tell each from the Rust.
+//! Wrong rules for the store, each planted alone into the model; the generated scripts must tell each from the Rust, and those
+//! for sender and place, which the Rust does not tell, from the model without a wrong rule.
 
 sayings! { Wrong {
     ConsumedAtClaim: "a head equal to the claim consumes the nonce",
@@ -84,4 +85,24 @@ sayings! { Wrong {
     RefusedPushHeld: "a push that is refused for its gap is held",
     RefusedPollHolds: "a refused poll sets the held heads",
     RefusedGuardDrops: "a refused guard drops the guard of its hash",
+    // from here on, rules for sender and place
+    PlaceOfAll: "the place counts the entries of all senders",
+    PlaceOfTracked: "the place counts tracked entries only",
+    PlaceOfHash: "the place counts the sender's entries of the same hash only",
+    PlaceOfPushed: "the place counts the sender's entries that have left too",
+    PlaceFromOne: "the place is counted from 1",
+    PlaceFromEnd: "the place is counted from the sender's last entry",
+    EnterWhoseFirst: "entering tells whose the first entry of the hash is, tracked or not",
+    EnterWhoseLast: "entering tells whose the last tracked entry of the hash is",
+    StateWhoseLast: "state tells whose the last entry of the hash is",
+    StateWhoseTracked: "state tells whose the first tracked entry of the hash is",
+    BoundaryWhoseLast: "expected_boundary tells whose the last entry of the hash is",
+    BoundaryWhoseTracked: "expected_boundary tells whose the first tracked entry of the hash is",
 }}
+
+impl Wrong {
+    /// Whether the rule is for sender and place: these stand last.
+    pub fn is_about_whose(self) -> bool {
+        self >= Wrong::PlaceOfAll
+    }
+}
