@@ -185,7 +185,8 @@ impl Run<'_> {
 
     /// Says whether every kind of answer was seen.
     fn seen(&mut self) -> bool {
-        println!("refusals and kinds of answers, seen in the Rust's answers and in the driver's refusals and records:");
+        print!("refusals and kinds of answers, seen in the Rust's answers, ");
+        println!("in the model's senders and places, and in the driver's refusals and records:");
         let (seen, all) = (self.seen.table(), seen::ALL.len());
         self.counts.push(format!("kinds of answers seen {seen} of {all}"));
         seen == all

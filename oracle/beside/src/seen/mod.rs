@@ -1,5 +1,5 @@
-//! What a run has met: each refusal and each kind of answer, counted from the Rust's own answers, and for the writers of records
-//! from the comparison's own. A kind that a run did not meet fails it.
+//! What a run has met: each refusal and each kind of answer, counted from the Rust's own answers, and for sender and place and
+//! for the writers of records from the comparison's own. A kind that a run did not meet fails it.
 mod journal;
 mod store;
 
@@ -32,6 +32,9 @@ sayings! { Kind {
     GuardReplaced: "guard: another one of its hash",
     EnterTrue: "enter: true",
     EnterFalse: "enter: false",
+    EnterFirst: "enter: place 0",
+    EnterBehindTracked: "enter: a place behind tracked entries only",
+    EnterBehindTentative: "enter: a place behind a tentative entry",
     EvictNone: "evict: no ticket",
     EvictSome: "evict: tickets",
     ReorgNone: "reorganisation: no ticket",
@@ -45,8 +48,14 @@ sayings! { Kind {
     StateMined: "state: tentative of kind 1",
     StateTaken: "state: tentative of kind 2",
     StateTakenBy: "state: tentative of kind 3",
+    StateFirst: "state: place 0",
+    StateBehindTracked: "state: a place behind tracked entries only",
+    StateBehindTentative: "state: a place behind a tentative entry",
     BoundaryNone: "expected_boundary: none",
     BoundarySome: "expected_boundary: some",
+    BoundaryFirst: "expected_boundary: place 0",
+    BoundaryBehindTracked: "expected_boundary: a place behind tracked entries only",
+    BoundaryBehindTentative: "expected_boundary: a place behind a tentative entry",
     BlocksNone: "tentative_blocks: none",
     BlocksSome: "tentative_blocks: some",
     LenZero: "len: 0",

@@ -1,12 +1,15 @@
 //! The kinds that one call of the store meets. What a frame was before the call is read from the model, which is held beside
 //! the Rust on every call.
 use super::{Kind, Seen};
-use crate::store::answers::{Answer, Entry, Row, State};
+use crate::store::answers::{Answer, Entry, Row, State, Whose};
 use crate::store::calls::{Address, Call};
 use crate::store::model::Model;
 
 /// Notes what is answered to a call, made when the store was as the model has it.
 pub fn see_call(seen: &mut Seen, call: &Call, before: &Model, answer: &Answer) {
+    if let Some(whose) = answer.whose() {
+        seen.see(of_whose(call, before, whose));
+    }
     match (call, answer.told()) {
         (Call::Poll { sender, head, known, .. }, Answer::Rows(rows)) => see_poll(seen, *sender, *head, known, before, rows),
         (Call::Guard(g), Answer::Done) => {
@@ -20,6 +23,22 @@ pub fn see_call(seen: &mut Seen, call: &Call, before: &Model, answer: &Answer) {
             }
         }
         (_, told) => seen.see(kind(call, told)),
+    }
+}
+
+/// Place 0, behind tracked entries of the sender only, or behind a tentative one.
+fn of_whose(call: &Call, before: &Model, whose: Whose) -> Kind {
+    let [first, behind_tracked, behind_tentative] = match call {
+        Call::Enter { .. } => [Kind::EnterFirst, Kind::EnterBehindTracked, Kind::EnterBehindTentative],
+        Call::State(_) => [Kind::StateFirst, Kind::StateBehindTracked, Kind::StateBehindTentative],
+        Call::Boundary(_) => [Kind::BoundaryFirst, Kind::BoundaryBehindTracked, Kind::BoundaryBehindTentative],
+        _ => panic!("{} does not answer so", call.mark()),
+    };
+    let mut earlier = before.entries.iter().filter(|e| e.frame.from == whose.sender).take(whose.place as usize);
+    match whose.place {
+        0 => first,
+        _ if earlier.all(|e| e.state == State::Tracked) => behind_tracked,
+        _ => behind_tentative,
     }
 }
 
