@@ -121,7 +121,7 @@ impl Run<'_> {
     }
 
     fn orders(&mut self) {
-        let (mut pairs, mut reordered, mut differences, mut reversed) = (0, 0, 0, 0);
+        let (mut pairs, mut reordered, mut differences, mut reversed, mut misplaced) = (0, 0, 0, 0, 0);
         for seed in self.sizes.seed..self.sizes.seed + self.sizes.orders {
             match order::try_orders(seed) {
                 order::Outcome::NoRoom => {}
@@ -133,9 +133,12 @@ impl Run<'_> {
                 }
             }
             reversed += usize::from(order::reversed_differs(seed));
+            misplaced += usize::from(order::wrong_place_differs(seed));
         }
-        println!("order rule, on the Rust: {pairs} pairs with room, {reordered} truly reordered, {differences} differences");
+        print!("order rule, on the Rust with the model's sender and place: {pairs} pairs with room, ");
+        println!("{reordered} truly reordered, {differences} differences");
         println!("  the reverse of the list, which is no legal order, was told apart in {reversed}");
+        println!("  a place counted over all senders, which hangs on the order, was told apart in {misplaced}");
         self.differences += differences;
         self.counts.push(format!("{reordered} true reorderings"));
     }

@@ -1,10 +1,12 @@
-//! The order rule, tried on the Rust itself: random lists of calls and legal reorderings of them.
+//! The order rule, tried on the Rust itself, with sender and place from the model: random lists of calls and legal reorderings.
 //! Its condition: the same reorganisation and finality calls stand in the same order, and before, between and after them
 //! each sender has the same calls in the same order. A guard or an entering is the call of the sender that pushes its hash.
 use super::answers::Answer;
 use super::calls::{Address, Call, Hash, Side};
+use super::due::Due;
 use super::generate;
-use super::original::Original;
+use super::model::Model;
+use super::wrong::Wrong;
 use crate::random::Random;
 use std::collections::BTreeMap;
 
@@ -85,8 +87,7 @@ fn interleave(stretch: &mut BTreeMap<Owner, Vec<usize>>, order: &mut Vec<usize>,
 
 /// What each place of the list answers when the calls come in this order, and the store afterwards; none if a call is refused
 /// for want of room, which the rule leaves out. A push's total is not compared.
-fn answers(calls: &[Call], order: &[usize]) -> Option<(Vec<Option<Answer>>, Answer)> {
-    let mut side = Original::default();
+fn answers(mut side: impl Side, calls: &[Call], order: &[usize]) -> Option<(Vec<Option<Answer>>, Answer)> {
     let mut found = vec![None; calls.len()];
     for place in order {
         let answer = match side.answer(&calls[*place]) {
@@ -108,12 +109,12 @@ pub enum Outcome {
     Different(String),
 }
 
-pub fn try_orders(seed: u64) -> Outcome {
+fn try_on<S: Side>(side: impl Fn() -> S, seed: u64) -> Outcome {
     let calls = calls(seed);
     let mut r = Random::new(seed ^ 0x0bde);
     let given: Vec<usize> = (0..calls.len()).collect();
     let other = reordered(&calls, &mut r);
-    let (Some(a), Some(b)) = (answers(&calls, &given), answers(&calls, &other)) else {
+    let (Some(a), Some(b)) = (answers(side(), &calls, &given), answers(side(), &calls, &other)) else {
         return Outcome::NoRoom;
     };
     if a != b {
@@ -125,12 +126,21 @@ pub fn try_orders(seed: u64) -> Outcome {
     }
 }
 
+pub fn try_orders(seed: u64) -> Outcome {
+    try_on(Due::default, seed)
+}
+
+/// Whether a place counted over all senders, which hangs on the order, is told apart: it shows that places are compared.
+pub fn wrong_place_differs(seed: u64) -> bool {
+    matches!(try_on(|| Model::with(Some(Wrong::PlaceOfAll)), seed), Outcome::Different(_))
+}
+
 /// Whether the reverse of the list, which is no legal order, is told apart: it shows that the comparison can tell.
 pub fn reversed_differs(seed: u64) -> bool {
     let calls = calls(seed);
     let given: Vec<usize> = (0..calls.len()).collect();
     let reversed: Vec<usize> = given.iter().rev().copied().collect();
-    match (answers(&calls, &given), answers(&calls, &reversed)) {
+    match (answers(Due::default(), &calls, &given), answers(Due::default(), &calls, &reversed)) {
         (Some(a), Some(b)) => a != b,
         _ => false,
     }
