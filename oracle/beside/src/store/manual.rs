@@ -8,6 +8,7 @@ const C: Address = [3; 20];
 const F: Hash = [0x11; 32];
 const G: Hash = [0x22; 32];
 const I: Hash = [0x77; 32];
+const J: Hash = [0x88; 32];
 /// Hashes of a block: the recorded one, and another.
 const BLOCK: Hash = [0x33; 32];
 const OTHER: Hash = [0x55; 32];
@@ -196,6 +197,20 @@ fn reading_scripts() -> Vec<Vec<Call>> {
             Call::State(F),
             enter(F, 2, 100, BLOCK),
             enter(F, 2, 100, BLOCK),
+        ],
+        // places above 0: tentative entries count, those that left and those of another sender do not
+        vec![
+            push(J, B, 5, 8, 6),
+            f(),
+            push(G, A, 5, 8, 8),
+            push(I, A, 6, 9, 9),
+            enter(F, 1, 100, BLOCK),
+            Call::State(G),
+            Call::Boundary(I),
+            enter(I, 1, 101, BLOCK),
+            finality(100),
+            Call::State(G),
+            Call::State(J),
         ],
         vec![
             Call::Blocks,
