@@ -9,7 +9,7 @@ uint64_t store_bench_push(uint64_t rounds);
 uint64_t store_bench_waiting(uint64_t frames, uint64_t rounds);
 uint64_t store_bench_guarded(uint64_t frames, uint64_t rounds);
 uint64_t store_bench_rescued(uint64_t frames, uint64_t rounds);
-uint64_t store_bench_enter(uint64_t rounds);
+uint64_t store_bench_enter(uint64_t frames, uint64_t rounds);
 uint64_t store_bench_evict(uint64_t rounds);
 uint64_t store_bench_finality(uint64_t rounds);
 uint64_t store_bench_whole_waiting(uint64_t rounds);
@@ -26,7 +26,7 @@ static uint64_t run(enum what what, uint64_t frames, uint64_t rounds) {
     case WAITING: return store_bench_waiting(frames, rounds);
     case GUARDED: return store_bench_guarded(frames, rounds);
     case RESCUED: return store_bench_rescued(frames, rounds);
-    case ENTER: return store_bench_enter(rounds);
+    case ENTER: return store_bench_enter(frames, rounds);
     case EVICT: return store_bench_evict(rounds);
     case FINALITY: return store_bench_finality(rounds);
     case POLLS: return gap_quarantine_polls(rounds);
@@ -136,7 +136,8 @@ int main(void) {
     tell("  poll, 1 frame rescued", RESCUED, 1);
     tell("  poll, 8 frames rescued", RESCUED, 8);
     tell("  poll, 64 frames rescued", RESCUED, 64);
-    tell("  enter, 8 held", ENTER, 8);
+    tell("  enter the first of 8 frames", ENTER, 8);
+    tell("  enter the first of 64 frames", ENTER, 64);
     tell("  eviction of 8 frames", EVICT, 8);
     tell("  finality of one, 8 held", FINALITY, 8);
     printf("a round whose store goes to the next:\n");

@@ -24,7 +24,6 @@ pub record Computed : Type 0 where
   pub rescued : Goes (after empty (push (frame 0))) rescuing 19 0 empty 1
   pub ended : Goes (after (after empty (push (frame 0))) mining) (checkFinalized 100) 3 64 empty 1
   pub ninth : told (pushed 8) (push (frame 8)) 0 0 ≡ 9
-  pub enters : told (pushed 8) mining 0 0 ≡ 1
   pub evicts : told (pushed 8) evicting 64 0 ≡ 8
   pub ends : told (after (pushed 8) mining) (checkFinalized 100) 3 64 ≡ 1
 
@@ -37,23 +36,23 @@ computed =
       rescued = record { store = refl; seen = refl };
       ended = record { store = refl; seen = refl };
       ninth = refl;
-      enters = refl;
       evicts = refl;
       ends = refl;
     }
 
--- polls of so many frames
+-- polls of so many frames, and the entering of the first
 pub record Polled (n : ℕ) : Type 0 where
   pub few : n ≤ 64
   pub waits : told (pushed n) waiting 1216 0 ≡ n
   pub held-back : told (guardedBy n) guarded 1216 0 ≡ n
   pub rescued : told (pushed n) rescuing 1216 0 ≡ n
+  pub enters : told (pushed n) mining 0 0 ≡ 1
 
 by-size : (a b : Bool) → Polled (sizeOf a b)
 unfolding bytes.eqBytes bytes.leBytes lists.keep lists.isEmpty lists.isIn frames.degraded polls.numbersFrom polls.gap polls.predecessors polls.unknown polls.firstIs polls.contentsHold polls.contentMatches polls.boundaryHolds polls.guardMatches polls.stay polls.leave polls.row polls.pollFull polls.pollIn polls.pollGiven polls.pollRule rules.onlyOf rules.evictRule rules.finalIn rules.finalRule stores.empty stores.guardOf stores.dropGuard stores.putGuard stores.after stores.walk stores.walked stores.fresh stores.insert frames.isTracked search.firstAt lookups.entriesOf lookups.enters lookups.foundBehind lookups.firstOf lookups.lookup lookups.isFound lookups.enterWith lookups.enterHead lookups.enterFirst stores.effect stores.when orElse stores.wideGap stores.badContent stores.badContents stores.noRoomFor stores.inputRefusal stores.listed stores.roomRefusal stores.rowWidth stores.refusal stores.unless stores.step answers.said pushed guardedBy
-by-size true b = record { few = omega arith; waits = refl; held-back = refl; rescued = refl }
-by-size false true = record { few = omega arith; waits = refl; held-back = refl; rescued = refl }
-by-size false false = record { few = omega arith; waits = refl; held-back = refl; rescued = refl }
+by-size true b = record { few = omega arith; waits = refl; held-back = refl; rescued = refl; enters = refl }
+by-size false true = record { few = omega arith; waits = refl; held-back = refl; rescued = refl; enters = refl }
+by-size false false = record { few = omega arith; waits = refl; held-back = refl; rescued = refl; enters = refl }
 
 pub at-size : (n : ℕ) → Polled (sized n)
 at-size n = by-size (ltb n 8) (ltb n 64)

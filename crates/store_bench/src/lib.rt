@@ -185,12 +185,12 @@ pub extern "C" fn store_bench_rescued(frames: u64, rounds: u64) -> u64
     repeated(Once::Rescue, store_of(sized(frames)), rounds)
 }
 
-// Enterings of the first of 8 frames.
+// Enterings of the first of 1, 8 or 64 frames.
 #[no_mangle]
-pub extern "C" fn store_bench_enter(rounds: u64) -> u64
+pub extern "C" fn store_bench_enter(frames: u64, rounds: u64) -> u64
     ensures { λ r. ⌜ r ≡ min rounds 4294967296 ⌝ }
 {
-    repeated(Once::Enter, store_of(8), rounds)
+    repeated(Once::Enter, store_of(sized(frames)), rounds)
 }
 
 // Evictions of a sender's 8 frames.

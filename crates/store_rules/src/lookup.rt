@@ -63,6 +63,8 @@ impl Search {
     {
         let frame = e.frame;
         let from = frame.from;
+        let whose = self.whose;
+        let found = whose.found;
         if is_sought(e, hash, tracked) {
             return Search {
                 at: i,
@@ -73,11 +75,10 @@ impl Search {
                 },
             };
         }
-        let whose = self.whose;
-        let sender = whose.sender;
-        if !whose.found {
+        if !found {
             return self;
         }
+        let sender = whose.sender;
         if !same_address(from, sender) {
             return self;
         }

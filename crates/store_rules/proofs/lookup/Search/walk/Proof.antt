@@ -12,21 +12,21 @@ returns : tie.Need-returns
 returns c = λ es h. hit _ _ es _ _ h (sym ((c .before) .is-sought .ensures) ∙ c .if1 .taken)
 
 returns-2 : tie.Need-returns-2
-returns-2 c = λ es h. miss-none _ _ es _ _ h (sym ((c .before .before .before .before .before) .is-sought .ensures) ∙ (c .before .before .before .before) .if1 .left) (not-true _ (c .if2 .taken))
+returns-2 c = λ es h. miss-none _ _ es _ _ h (sym ((c .before .before) .is-sought .ensures) ∙ (c .before) .if1 .left) (not-true _ (c .if2 .taken))
 
 same-address-requires : tie.Need-same-address-requires
 same-address-requires c κs = search needs
 
 returns-3 : tie.Need-returns-3
 returns-3 c =
-    λ es h. miss-other _ _ es _ _ h (sym ((c .before .before .before .before .before .before .before) .is-sought .ensures) ∙ (c .before .before .before .before .before .before) .if1 .left) (sym ((c .before) .same-address .ensures) ∙ not-true _ (c .if3 .taken))
+    λ es h. miss-other _ _ es _ _ h (sym ((c .before .before .before .before .before) .is-sought .ensures) ∙ (c .before .before .before .before) .if1 .left) (sym ((c .before) .same-address .ensures) ∙ not-true _ (c .if3 .taken))
 
 add-place : tie.Need-add-place
 add-place c = search needs
 
 returns-4 : tie.Need-returns-4
 returns-4 c =
-    λ es h. miss-own _ _ es _ _ h (sym ((c .before .before .before .before .before .before .before .before) .is-sought .ensures) ∙ (c .before .before .before .before .before .before .before) .if1 .left) (not-false _ ((c .before .before .before) .if2 .left)) (sym ((c .before .before) .same-address .ensures) ∙ not-false _ ((c .before) .if3 .left))
+    λ es h. miss-own _ _ es _ _ h (sym ((c .before .before .before .before .before .before) .is-sought .ensures) ∙ (c .before .before .before .before .before) .if1 .left) (not-false _ ((c .before .before .before .before) .if2 .left)) (sym ((c .before .before) .same-address .ensures) ∙ not-false _ ((c .before) .if3 .left))
 
 pub walk-spec : {M : Type 1} → statement M
 walk-spec = tie.close (tie.spec is-sought-requires returns returns-2 same-address-requires returns-3 add-place returns-4)
