@@ -1,5 +1,5 @@
 -- Every lookup finds what it should (`every-lookup`), and every entering changes the entry found (`every-entering`).
-use Prim.Native.Nat.{ℕ, zero, suc, _<_}
+use Prim.Native.Nat.{suc, _<_}
 use native.Mathlib.Omega.{arith}
 use mathlib.Core.Path.{_≡_, refl, subst}
 use mathlib.Core.Bool.{Bool, true, false, not, cond}

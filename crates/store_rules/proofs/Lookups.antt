@@ -1,5 +1,5 @@
 -- The laws of the lookup and of entering: an entry in front, where the entry found stands, and what other senders' entries change.
-use Prim.Native.Nat.{ℕ, zero, suc, _≤_, _<_}
+use Prim.Native.Nat.{ℕ, zero, suc, _<_}
 use native.Mathlib.Omega.{arith}
 use mathlib.Core.Path.{_≡_, refl, sym, ap, _∙_, subst}
 use mathlib.Core.Bool.{Bool, true, false, cond, false≢true}
@@ -10,7 +10,6 @@ use Rattle.lists.specs.Bytes.{Bytes, eqBytes}
 use Rattle.lists.specs.Lists.{keep, Each}
 use Rattle.lists.specs.Search.{firstAt}
 use Rattle.lists.proofs.ByteOrder.{clash, eqBytes-true}
-use Rattle.lists.proofs.Keeping.{keep-yes, keep-no}
 use Rattle.store_rules.specs.Frames.{Consumed, Entry}
 use Rattle.store_rules.specs.Lookup.{entriesOf, enters, Whose, Found, foundBehind, firstOf, lookup, isFound, enterWith, enterHead, enterFirst}
 

@@ -8,7 +8,7 @@ use lib.Dec.{eqb, leb, ltb}
 use lib.ListN.{length}
 use Rattle.lists.specs.Bytes.{Bytes, eqBytes, leBytes}
 use Rattle.lists.specs.Lists.{keep, isEmpty, Pairwise}
-use Rattle.store_rules.specs.Frames.{Frame, Consumed, State, tracked, tentative, Standing, Entry, Guard, Row, Dead, Visit}
+use Rattle.store_rules.specs.Frames.{Frame, Consumed, tracked, Standing, Entry, Guard, Row, Dead, Visit}
 use Rattle.store_rules.specs.Poll.{Content, pollRule}
 use Rattle.store_rules.specs.Rules.{onlyOf, evictRule, reorgRule, finalRule}
 use Rattle.store_rules.specs.Lookup.{entriesOf, enters, Whose, whoseFound, lookup, isFound, enterFirst}
