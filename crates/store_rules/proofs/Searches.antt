@@ -1,4 +1,4 @@
--- A search that walks from the last entry to the first: one entry more, case by case; the loop over an array; and what it ends with.
+-- A search that walks from the last entry to the first: one entry more; the loop over an array; and what it ends with.
 use Prim.Native.Nat.{ℕ, zero, suc, _+_, _-_, _≤_, _<_, min}
 use native.Mathlib.Numerals.{add-one}
 use native.Mathlib.Omega.{arith}
@@ -8,15 +8,15 @@ use mathlib.Core.List.{List, [], _∷_, map}
 use mathlib.Core.Option.{Option, none, some, Option·map, Option·some-injective, Option·none-ne-some}
 use lib.ListN.{length, take, drop, getD, length-take, length-drop, length-map}
 use lib.Seq.{getD-take}
-use Rattle.lists.specs.Bytes.{eqBytes}
+use Rattle.lists.specs.Bytes.{Bytes, eqBytes}
 use Rattle.lists.specs.Lists.{keep}
 use Rattle.lists.specs.Search.{firstAt}
-use Rattle.lists.proofs.ByteOrder.{clash}
 use Rattle.lists.proofs.Compacting.{rest-on, rest-none}
+use Rattle.lists.proofs.Same.{and-false}
 use Rattle.store_rules.specs.Frames.{Entry}
 use Rattle.store_rules.specs.Lookup.{entriesOf, Found, whoseFound, foundBehind, firstOf, lookup, isFound}
 use Rattle.store_rules.specs.View.{entryOf}
-use Rattle.store_rules.specs.Searching.{whoseShown, Searched, Begins}
+use Rattle.store_rules.specs.Searching.{whoseShown, unwalked, whoseBehind, walkedOn}
 use Rattle.store_rules.specs.declared.Entry as coded
 use Rattle.store_rules.specs.declared.lookup.Whose as shown
 use Rattle.store_rules.specs.declared.lookup.Search.{Search}
@@ -26,45 +26,54 @@ use Rattle.store_rules.proofs.Lookups.{placeBehind, behind, lookup-nil,
 abbrev pub showing : Option Found → shown.Whose
 showing o = whoseShown (whoseFound o)
 
-pub begins : (len : ℕ) → Begins len (record { at = len; whose = whoseShown none })
+-- what the search among these entries, the first of which stands at i, has found
+pub record Searched (p : Entry → Bool) (es : List Entry) (i : ℕ) (s : Search) : Type 0 where
+  pub at : s .at ≡ i + firstAt p es
+  pub whose : s .whose ≡ showing (lookup p es)
+
+begins : (p : Entry → Bool) (len : ℕ) → Searched p [] len (unwalked len)
 unfolding firstAt lookup firstOf
-begins len p = record { at = omega arith; whose = refl }
+begins p len = record { at = omega arith; whose = refl }
 
--- an entry in front of what was found
-module _ (e : Entry) (w : shown.Whose) where
-  not-yet : (o : Option Found) → w ≡ showing o → w .found ≡ false → w ≡ showing (Option·map (behind e) o)
-  not-yet none h n = h
-  not-yet (some f) h n = clash (ap (λ (x : shown.Whose). x .found) h) n
+-- ---- one entry more in front
 
-  of-another : (o : Option Found) → w ≡ showing o → eqBytes (e .frame .from) (w .sender) ≡ false → w ≡ showing (Option·map (behind e) o)
-  unfolding behind placeBehind
-  of-another none h n = h
-  of-another (some f) h n = let m : eqBytes (e .frame .from) (f .whose .sender) ≡ false = rw h at n in rw m h
+shown-behind : (e : Entry) (o : Option Found) → whoseBehind (e .frame .from) (showing o) ≡ showing (Option·map (behind e) o)
+unfolding behind placeBehind
+shown-behind e none = refl
+shown-behind e (some f) = go (eqBytes (e .frame .from) (f .whose .sender))
+  where
+    at : ℕ → shown.Whose
+    at n = record { found = true; sender = f .whose .sender; place = n }
 
-  of-the-sender : (o : Option Found) → w ≡ showing o → w .found ≡ true → eqBytes (e .frame .from) (w .sender) ≡ true →
-      record { found = true; sender = w .sender; place = w .place + 1 } ≡ showing (Option·map (behind e) o)
-  unfolding behind placeBehind
-  of-the-sender none h y n = clash y (ap (λ (x : shown.Whose). x .found) h)
-  of-the-sender (some f) h y n = let m : eqBytes (e .frame .from) (f .whose .sender) ≡ true = rw h at n in rw (m, h, add-one)
+    go : (b : Bool) → cond b (at (f .whose .place + 1)) (at (f .whose .place)) ≡ at (cond b (suc (f .whose .place)) (f .whose .place))
+    go true = ap at (add-one (f .whose .place))
+    go false = refl
 
-module _ (p : Entry → Bool) (e : Entry) (es : List Entry) (i : ℕ) (s : Search) (h : Searched p es (i + 1) s) where
-  pub hit : p e ≡ true → Searched p (e ∷ es) i (record { at = i; whose = record { found = true; sender = e .frame .from; place = 0 } })
-  unfolding firstAt foundBehind entriesOf keep
-  hit t = record { at = rw t (omega arith); whose = rw (lookup-cons p e es, t) }
+searched-on : (p : Entry → Bool) (e : Entry) (es : List Entry) (i : ℕ) (s : Search) → Searched p es (i + 1) s → Searched p (e ∷ es) i (walkedOn (p e) i (e .frame .from) s)
+unfolding firstAt foundBehind entriesOf keep
+searched-on p e es i s h = go (p e) refl
+  where
+    go : (b : Bool) → p e ≡ b → Searched p (e ∷ es) i (walkedOn b i (e .frame .from) s)
+    go true t = record { at = rw t (omega arith); whose = rw (lookup-cons p e es, t) }
+    go false t = record {
+      at = rw t (omega (arith, h .at));
+      whose = rw (lookup-cons p e es, t) (ap (whoseBehind (e .frame .from)) (h .whose) ∙ shown-behind e (lookup p es));
+    }
 
-  missed : p e ≡ false → s .at ≡ i + firstAt p (e ∷ es)
-  unfolding firstAt
-  missed t = rw t (omega (arith, h .at))
+-- what the code's tests say of it
+module _ (from : Bytes) (i : ℕ) (s : Search) (t : Bool) where
+  pub hit : t ≡ true → record { at = i; whose = record { found = true; sender = from; place = 0 } } ≡ walkedOn t i from s
+  hit h = rw h
 
-  pub miss-none : p e ≡ false → s .whose .found ≡ false → Searched p (e ∷ es) i s
-  miss-none t n = record { at = missed t; whose = rw (lookup-cons p e es, t) (not-yet e (s .whose) (lookup p es) (h .whose) n) }
+  pub not-found : t ≡ false → s .whose .found ≡ false → s ≡ walkedOn t i from s
+  not-found h n = rw (h, n)
 
-  pub miss-other : p e ≡ false → eqBytes (e .frame .from) (s .whose .sender) ≡ false → Searched p (e ∷ es) i s
-  miss-other t n = record { at = missed t; whose = rw (lookup-cons p e es, t) (of-another e (s .whose) (lookup p es) (h .whose) n) }
+  pub of-another : t ≡ false → eqBytes from (s .whose .sender) ≡ false → s ≡ walkedOn t i from s
+  of-another h n = rw (h, n, and-false (s .whose .found))
 
-  pub miss-own : p e ≡ false → s .whose .found ≡ true → eqBytes (e .frame .from) (s .whose .sender) ≡ true →
-      Searched p (e ∷ es) i (record { at = s .at; whose = record { found = true; sender = s .whose .sender; place = s .whose .place + 1 } })
-  miss-own t y n = record { at = missed t; whose = rw (lookup-cons p e es, t) (of-the-sender e (s .whose) (lookup p es) (h .whose) y n) }
+  pub of-the-sender : t ≡ false → s .whose .found ≡ true → eqBytes from (s .whose .sender) ≡ true →
+      record { at = s .at; whose = record { found = true; sender = s .whose .sender; place = s .whose .place + 1 } } ≡ walkedOn t i from s
+  of-the-sender h y n = rw (h, y, n)
 
 -- ---- how far the place goes, and where the entry stands
 
@@ -106,9 +115,9 @@ pub record Looking (p : Entry → Bool) (es : List coded.Entry) (n i : ℕ) (s :
   pub whole : length es ≡ 64
   pub walked : Searched p (map entryOf (drop i (take n es))) i s
 
-pub looking-begins : (p : Entry → Bool) (es : List coded.Entry) (len n : ℕ) (s : Search) → length es ≡ 64 → n ≡ min len 64 → Begins n s → Looking p es n n s
+pub looking-begins : (p : Entry → Bool) (es : List coded.Entry) (len n : ℕ) (s : Search) → length es ≡ 64 → n ≡ min len 64 → s ≡ unwalked n → Looking p es n n s
 looking-begins p es len n s whole is b =
-    record { left = omega arith; few = omega arith; whole = whole; walked = rw (rest-none entryOf es n n (omega arith)) (b p) }
+    record { left = omega arith; few = omega arith; whole = whole; walked = rw (rest-none entryOf es n n (omega arith), b) (begins p n) }
 
 module _ {p : Entry → Bool} {es : List coded.Entry} {n i : ℕ} {s : Search} (l : Looking p es n i s) where
   pub place-fits : 0 < i → s .whose .place < 64
@@ -119,7 +128,7 @@ module _ {p : Entry → Bool} {es : List coded.Entry} {n i : ℕ} {s : Search} (
 
   -- one turn, to the entry before
   pub looking-on : (d : coded.Entry) (s′ : Search) → 0 < i →
-      ((r : List Entry) → Searched p r (i - 1 + 1) s → Searched p (entryOf (getD es (i - 1) d) ∷ r) (i - 1) s′) → Looking p es n (i - 1) s′
+      s′ ≡ walkedOn (p (entryOf (getD es (i - 1) d))) (i - 1) (getD es (i - 1) d .frame .from) s → Looking p es n (i - 1) s′
   looking-on d s′ b t =
       let j : i - 1 + 1 ≡ i = omega arith in
       let more : i - 1 < n = omega arith in
@@ -128,7 +137,7 @@ module _ {p : Entry → Bool} {es : List coded.Entry} {n i : ℕ} {s : Search} (
         left = omega arith;
         few = l .few;
         whole = l .whole;
-        walked = rw (rest-on entryOf es n (i - 1) d more fits) (t _ (rw j (l .walked)));
+        walked = rw (t, rest-on entryOf es n (i - 1) d more fits) (searched-on p (entryOf (getD es (i - 1) d)) _ (i - 1) s (rw j (l .walked)));
       }
 
 -- ---- what the loop ends with
@@ -145,6 +154,9 @@ module _ {p : Entry → Bool} {es : List coded.Entry} {n : ℕ} {s : Search} (l 
       let found : isFound (lookup p (map entryOf (take n es))) ≡ true = sym (found-shown (lookup p (map entryOf (take n es)))) ∙ ap (λ (w : shown.Whose). w .found) (sym looked-up) ∙ y in
       let size : length (map entryOf (take n es)) ≤ n = simp (length-map, length-take) (omega arith) in
       omega (arith, looked-at, first-within p (map entryOf (take n es)) found)
+
+  pub at-fits : s .whose .found ≡ true → s .at < 64
+  at-fits y = omega (arith, at-within y, l .few)
 
   pub entry-there : (d : coded.Entry) → s .at < n → (f : Found) → lookup p (map entryOf (take n es)) ≡ some f → entryOf (getD es (s .at) d) ≡ f .entry
   unfolding lookup

@@ -22,11 +22,6 @@ hasHash h e = eqBytes (e .frame .hash) h
 unfoldable pub enters : Bytes → Entry → Bool
 enters h e = hasHash h e && isTracked (e .standing .state)
 
--- a tracked entry of this hash, or any entry of it
-abbrev pub sought : Bytes → Bool → Entry → Bool
-sought h true e = enters h e
-sought h false e = hasHash h e
-
 -- ---- lookup
 
 -- whose an entry is: its sender, and its place among that sender's held entries in push order, counted from 0

@@ -2,9 +2,8 @@
 // that one walk finds the first entry and counts its sender's entries before it.
 ghost use mathlib.Core.Path.{_≡_};
 ghost use Prim.Native.Nat.{_<_};
-ghost use Rattle.store_rules.specs.Lookup.{sought};
 ghost use Rattle.store_rules.specs.View.{entryOf};
-ghost use Rattle.store_rules.specs.Searching.{Begins, WalksOn};
+ghost use Rattle.store_rules.specs.Searching.{sought, unwalked, walkedOn};
 use super::Entry;
 use super::FrameState;
 use super::same_address;
@@ -43,7 +42,7 @@ fn is_sought(e: Entry, hash: [u8; 32], tracked: bool) -> bool
 impl Search {
     // None of so many entries was walked.
     pub fn new(len: usize) -> Search
-        ensures { λ r. ⌜ Begins len r ⌝ }
+        ensures { λ r. ⌜ r ≡ unwalked len ⌝ }
     {
         let zeros = [0u8; 20];
         Search {
@@ -59,7 +58,7 @@ impl Search {
     // Walks the entry at i, which stands before those that were walked.
     pub fn walk(self, i: usize, e: Entry, hash: [u8; 32], tracked: bool) -> Search
         requires { ⌜ self .whose .place < 64 ⌝ }
-        ensures { λ r. ⌜ WalksOn hash tracked i e self r ⌝ }
+        ensures { λ r. ⌜ r ≡ walkedOn (sought hash tracked (entryOf e)) i (e .frame .from) self ⌝ }
     {
         let frame = e.frame;
         let from = frame.from;

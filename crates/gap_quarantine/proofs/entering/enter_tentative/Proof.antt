@@ -1,7 +1,7 @@
 use native.Mathlib.Omega.{arith}
 use Rattle.lists.proofs.Compacting.{long}
 use Rattle.store_rules.specs.Lookup.{enters}
-use Rattle.store_rules.proofs.Searches.{Looking, looking-begins, place-fits, looking-on, at-within, looking-ends}
+use Rattle.store_rules.proofs.Searches.{Looking, looking-begins, place-fits, looking-on, at-fits, looking-ends}
 use Rattle.gap_quarantine.proofs.EnterSteps.{absent, present}
 use borrow.Author.Needs.{needs}
 use borrow.Author.Tests.{not-true, not-false}
@@ -45,19 +45,19 @@ returns : tie.Need-returns Inv-loop μ-loop
 returns c = absent ((c .before .before .before .before .before .before .before) .args .t1) _ _ _ ((c .before .before .before .before .before .before) .clamped .ensures) _ (looking-ends ((c .before .before .before .before) .loop .inv) (omega arith)) (not-true _ (c .if1 .taken))
 
 mul-e-2 : tie.Need-mul-e-2 Inv-loop μ-loop
-mul-e-2 c = omega (arith, at-within (looking-ends ((c .before .before .before .before) .loop .inv) (omega arith)) (not-false _ (c .if1 .left)), (c .before .before .before .before) .loop .inv .few)
+mul-e-2 c = omega (arith, at-fits (looking-ends ((c .before .before .before .before) .loop .inv) (omega arith)) (not-false _ (c .if1 .left)))
 
 element-copy-out-e-2 : tie.Need-element-copy-out-e-2 Inv-loop μ-loop
-element-copy-out-e-2 c = omega (arith, at-within (looking-ends ((c .before .before .before .before) .loop .inv) (omega arith)) (not-false _ (c .if1 .left)), (c .before .before .before .before) .loop .inv .few)
+element-copy-out-e-2 c = at-fits (looking-ends ((c .before .before .before .before) .loop .inv) (omega arith)) (not-false _ (c .if1 .left))
 
 made-tentative-requires : tie.Need-made-tentative-requires Inv-loop μ-loop
 made-tentative-requires c κs = search needs
 
 mul-f : tie.Need-mul-f Inv-loop μ-loop
-mul-f c = omega (arith, at-within (looking-ends ((c .before .before .before .before .before .before) .loop .inv) (omega arith)) (not-false _ ((c .before .before) .if1 .left)), (c .before .before .before .before .before .before) .loop .inv .few)
+mul-f c = omega (arith, at-fits (looking-ends ((c .before .before .before .before .before .before) .loop .inv) (omega arith)) (not-false _ ((c .before .before) .if1 .left)))
 
 element-set-from-f : tie.Need-element-set-from-f Inv-loop μ-loop
-element-set-from-f c = omega (arith, at-within (looking-ends ((c .before .before .before .before .before .before) .loop .inv) (omega arith)) (not-false _ ((c .before .before) .if1 .left)), (c .before .before .before .before .before .before) .loop .inv .few)
+element-set-from-f c = at-fits (looking-ends ((c .before .before .before .before .before .before) .loop .inv) (omega arith)) (not-false _ ((c .before .before) .if1 .left))
 
 drop-guard-requires : tie.Need-drop-guard-requires Inv-loop μ-loop
 drop-guard-requires c κs = search needs

@@ -1,7 +1,7 @@
 use mathlib.Core.Path.{_≡_, sym, _∙_}
 use mathlib.Core.Logic.{⊎-elim}
 use Rattle.lists.specs.Bytes.{eqBytes}
-use Rattle.store_rules.specs.Lookup.{sought}
+use Rattle.store_rules.specs.Searching.{sought}
 use Rattle.store_rules.specs.View.{entryOf}
 use Rattle.store_rules.proofs.Seen.{enters-tentative, enters-tracked}
 use borrow.Author.Needs.{needs}
