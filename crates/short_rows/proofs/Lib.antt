@@ -1,0 +1,5 @@
+pub mod Bits
+pub mod Gathering
+pub mod Marking
+pub mod Marks
+pub mod Reading
