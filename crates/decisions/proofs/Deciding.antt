@@ -17,11 +17,11 @@ use Rattle.store_rules.specs.declared.NonceConsumed.{NonceConsumed}
 use Rattle.store_rules.specs.declared.FrameState.the-variants.{Tracked, Tentative}
 use Rattle.store_rules.proofs.PollCases.{PollCase, silent, consumed, holds, hold, waits, heldBack, rescued, poll-case, poll-is}
 use Rattle.decisions.specs.Courses.{stayingAs, visitTold, visitOf}
-use Rattle.decisions.specs.declared.poll.Telling.{Telling}
-use Rattle.decisions.specs.declared.poll.Telling.the-variants.{Consumed, Hold, Waits, HeldBack, Rescued}
+use Rattle.decisions.specs.declared.rows.Telling.{Telling}
+use Rattle.decisions.specs.declared.rows.Telling.the-variants.{Consumed, Hold, Waits, HeldBack, Rescued}
 use Rattle.decisions.specs.declared.poll.Course.{Course}
 use Rattle.decisions.specs.declared.poll.Course.the-variants.{Silent, Tells}
-use Rattle.decisions.proofs.poll.Telling.{the-type}
+use Rattle.decisions.proofs.rows.Telling.{the-type}
 
 -- ---- the state
 

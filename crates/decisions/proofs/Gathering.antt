@@ -2,15 +2,12 @@
 use Prim.Native.Nat.{ℕ, zero, suc, _+_, _-_, _≤_, _<_}
 use native.Mathlib.Nat.{add-zero, add-suc, suc-add}
 use native.Mathlib.Omega.{arith}
-use mathlib.Core.Path.{_≡_, refl, sym, ap, _∙_}
+use mathlib.Core.Path.{_≡_, refl, ap, _∙_}
 use mathlib.Core.Bool.{Bool, true, false, not, cond}
 use mathlib.Core.List.{List, [], _∷_, _++_, append-nil}
-use lib.ListN.{length, take, set, length-set, length-append, take-append-drop}
-use lib.Seq.{take-at}
 use lib.Dec.{leb}
 use borrow.Author.Tests.{le-leb, lt-leb}
-use Rattle.lists.specs.Lists.{keep, isEmpty, isIn, writtenAt}
-use Rattle.lists.proofs.Writing.{one-at, at-behind}
+use Rattle.lists.specs.Lists.{keep, isEmpty, isIn}
 use Rattle.store_rules.specs.Poll.{numbersFrom}
 
 -- ---- numbers, from the front
@@ -49,39 +46,6 @@ module _ (head n i : ℕ) where
 
   pub pred-same : n + i < head → predsOf head n (i + 1) ≡ predsOf head n i
   pred-same h = rw (numbers-more n i) (keep-miss (λ k. leb head k) (numbersFrom n i) (n + i) (lt-leb head (n + i) h))
-
--- ---- a list written to a place of an array, one number after another
-
--- after i turns `count` numbers, those of l, stand in the array from the place on
-pub record Gathers (at size : ℕ) (base out : List ℕ) (count i : ℕ) (l : List ℕ) : Type 0 where
-  pub few : count ≡ length l
-  pub within : count ≤ i
-  pub wide : length base ≡ size
-  pub whole : length out ≡ size
-  pub holds : out ≡ writtenAt at l base
-
-pub gather-none : (at size : ℕ) (base : List ℕ) → length base ≡ size → Gathers at size base base 0 0 []
-gather-none at size base w = record { few = refl; within = omega arith; wide = w; whole = w; holds = sym (take-append-drop at base) }
-
-module _ (at size : ℕ) (base out : List ℕ) (count i : ℕ) (l : List ℕ) (g : Gathers at size base out count i l) where
-  pub gather-hit : (x place : ℕ) → place ≡ at + count → at + count < size → Gathers at size base (set out place x) (count + 1) (i + 1) (l ++ (x ∷ []))
-  gather-hit x place p h =
-      let e : place ≡ at + length l = omega (arith, g .few) in
-      let b : at + length l < length (writtenAt at l base) = rw (← g .holds) (omega (arith, g .whole)) in
-      record {
-        few = simp length-append (omega (arith, g .few));
-        within = omega (arith, g .within);
-        wide = g .wide;
-        whole = length-set out place x ∙ g .whole;
-        holds = rw (e, g .holds) (one-at (writtenAt at l base) (at + length l) x b ∙ at-behind at l (x ∷ []) base (omega (arith, g .wide)));
-      }
-
-  pub gather-miss : Gathers at size base out count (i + 1) l
-  gather-miss = record { few = g .few; within = omega (arith, g .within); wide = g .wide; whole = g .whole; holds = g .holds }
-
--- the front of an array that was filled from its start on
-pub gathered : (size : ℕ) (base out : List ℕ) (count i : ℕ) (l : List ℕ) → Gathers 0 size base out count i l → take count out ≡ l
-gathered size base out count i l g = rw (g .holds) (take-at l _ count (sym (g .few)))
 
 -- ---- whether any predecessor is unknown
 

@@ -1,4 +1,4 @@
--- What a poll decides of one entry, as the definitions see it: the entry's visit.
+-- What a poll decides of one entry, as the definitions see it: the entry's visit, and the row's form.
 use Prim.Native.Nat.{ℕ}
 use mathlib.Core.Bool.{Bool, true, false, not}
 use mathlib.Core.List.{List, [], _∷_}
@@ -6,10 +6,17 @@ use mathlib.Core.Option.{some}
 use Rattle.lists.specs.Lists.{isIn}
 use Rattle.store_rules.specs.Frames.{Frame, Standing, Entry, Decision, rescue, nonceConsumed, stillWaiting, Row, Visit}
 use Rattle.store_rules.specs.Poll.{predecessors, unknown, stay, leave}
-use Rattle.decisions.specs.declared.poll.Telling.{Telling}
-use Rattle.decisions.specs.declared.poll.Telling.the-variants.{Consumed, Hold, Waits, HeldBack, Rescued}
+use Rattle.store_rules.specs.Store.{RowForm, long, short}
+use Rattle.decisions.specs.declared.rows.Telling.{Telling}
+use Rattle.decisions.specs.declared.rows.Telling.the-variants.{Consumed, Hold, Waits, HeldBack, Rescued}
+use Rattle.decisions.specs.declared.rows.RowForm as coded
+use Rattle.decisions.specs.declared.rows.RowForm.the-variants.{Long, Short}
 use Rattle.decisions.specs.declared.poll.Course.{Course}
 use Rattle.decisions.specs.declared.poll.Course.the-variants.{Silent, Tells}
+
+abbrev pub formOf : coded.RowForm → RowForm
+formOf Long = long
+formOf Short = short
 
 abbrev pub decisionOf : Telling → Decision
 decisionOf Consumed = nonceConsumed

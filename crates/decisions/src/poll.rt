@@ -1,16 +1,17 @@
-// What a poll decides of one entry, and the row that tells of it.
+// What a poll decides of one entry.
 ghost use mathlib.Core.Path.{_≡_};
 ghost use mathlib.Core.Bool.{true, false, not};
-ghost use Prim.Native.Nat.{_*_, _≤_};
-ghost use lib.ListN.{length, take};
+ghost use Prim.Native.Nat.{_*_};
+ghost use lib.ListN.{length};
 ghost use Rattle.lists.specs.Lists.{isEmpty};
-ghost use Rattle.store_rules.specs.Poll.{heldAt, unknown, predecessors, pollGiven, pollRule};
+ghost use Rattle.store_rules.specs.Poll.{heldAt, unknown, pollGiven, pollRule};
 ghost use Rattle.store_rules.specs.Rules.{onlyOf};
-ghost use Rattle.store_rules.specs.Store.{long, guardOf};
-ghost use Rattle.store_rules.specs.Answers.{decisionNumber, rowNumbers};
+ghost use Rattle.store_rules.specs.Store.{guardOf};
 ghost use Rattle.store_rules.specs.View.{frameOf, heldOf, entryOf, Bodies, bodiesOf, contentOf};
 ghost use Rattle.guards.specs.Recording.{standing};
-ghost use Rattle.decisions.specs.Courses.{decisionOf, isListed, rowOf, stayingAs, visitOf};
+ghost use Rattle.decisions.specs.Courses.{stayingAs, visitOf};
+use super::rows::Telling;
+use super::rows::listed;
 use guards::guard_holds;
 use store_rules::Entry;
 use store_rules::FrameState;
@@ -20,23 +21,11 @@ use store_rules::gap_count;
 use store_rules::is_degraded;
 use store_rules::same_address;
 
-// What a row tells of a frame: its nonce is consumed, a degraded frame is held, predecessors are unknown, its guard holds it back,
-// or it is rescued and leaves.
-pub enum Telling {
-    Consumed,
-    Hold,
-    Waits,
-    HeldBack,
-    Rescued,
-}
-
 // What becomes of an entry: it stays and gives no row, or a row tells of it.
 pub enum Course {
     Silent,
     Tells(Telling),
 }
-
-// ---- the decision
 
 // Whether the last held head is this one.
 fn is_held(held: HeldHead, head: u64) -> bool
@@ -93,35 +82,6 @@ fn decide(e: Entry, head: u64, known: &[u64]) -> Course
     Course::Tells(Telling::Rescued)
 }
 
-// Nonces in ascending order, up to the count.
-struct Nonces {
-    at: [u64; 16],
-    count: usize,
-}
-
-// The nonces of a gap that are at least the head.
-fn predecessors(frame: ParkedFrame, head: u64) -> Nonces
-    ensures { λ r. ⌜ (r .count ≤ 16) × (take (r .count) (r .at) ≡ predecessors head (frameOf frame)) ⌝ }
-{
-    let expected = frame.expected;
-    let m = gap_count(expected, frame.claim);
-    let mut at = [0u64; 16];
-    let mut count: usize = 0;
-    let mut i: u64 = 0;
-    while i < m {
-        let n = expected + i;
-        i += 1;
-        if head <= n {
-            at[count] = n;
-            count += 1;
-        }
-    }
-    Nonces {
-        at: at,
-        count: count,
-    }
-}
-
 // What a poll makes of an entry: its own, told by the rules and the guard of its hash; or another sender's, which stays silent.
 // Without content no guard matches, and neither labels nor bodies are read.
 pub fn course_of(
@@ -161,7 +121,7 @@ pub fn course_of(
         return course;
     };
     let hash = frame.hash;
-    let preds = predecessors(frame, head);
+    let preds = listed(frame, Telling::Rescued, head, known);
     let own = preds.at;
     let count = preds.count;
     if guard_holds(
@@ -188,57 +148,4 @@ pub fn stays(e: Entry, telling: Telling, head: u64) -> Entry
         return e;
     };
     e.with_held(head)
-}
-
-// ---- the row
-
-// Document 01's number of what a row tells.
-fn decision_number(telling: Telling) -> u64
-    ensures { λ r. ⌜ r ≡ decisionNumber (decisionOf telling) ⌝ }
-{
-    match telling {
-        Telling::Consumed => 2,
-        Telling::Hold => 3,
-        Telling::Waits => 3,
-        Telling::HeldBack => 3,
-        Telling::Rescued => 1,
-    }
-}
-
-// Whether a row lists this predecessor: all, those that are unknown, or none.
-fn is_listed(telling: Telling, n: u64, known: &[u64]) -> bool
-    ensures { λ r. ⌜ r ≡ isListed telling (now (known .entry)) n ⌝ }
-{
-    match telling {
-        Telling::Consumed => false,
-        Telling::Hold => !lists::is_in(n, known),
-        Telling::Waits => !lists::is_in(n, known),
-        Telling::HeldBack => true,
-        Telling::Rescued => true,
-    }
-}
-
-// The 19 numbers of a row: ticket, decision, count, the nonces, then zeros.
-pub fn row_of(frame: ParkedFrame, telling: Telling, head: u64, known: &[u64]) -> [u64; 19]
-    ensures { λ r. ⌜ r ≡ rowNumbers long (rowOf telling head (now (known .entry)) (frameOf frame)) ⌝ }
-{
-    let mut row = [0u64; 19];
-    row[0] = frame.ticket;
-    row[1] = decision_number(telling);
-    let expected = frame.expected;
-    let m = gap_count(expected, frame.claim);
-    let mut count: usize = 0;
-    let mut i: u64 = 0;
-    while i < m {
-        let n = expected + i;
-        i += 1;
-        if head <= n {
-            if is_listed(telling, n, known) {
-                row[3 + count] = n;
-                count += 1;
-            }
-        }
-    }
-    row[2] = count as u64;
-    row
 }

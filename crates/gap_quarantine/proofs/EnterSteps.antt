@@ -11,7 +11,7 @@ use Rattle.lists.specs.Bytes.{Bytes}
 use Rattle.lists.proofs.Compacting.{clamp}
 use Rattle.store_rules.specs.Frames.{Consumed, Entry}
 use Rattle.store_rules.specs.Lookup.{enters, Found, whoseFound, lookup, isFound, enterWith, enterHead, enterFirst}
-use Rattle.store_rules.specs.Store.{dropGuard, entered, effect, inputRefusal, roomRefusal, refusal, unless, step}
+use Rattle.store_rules.specs.Store.{long, dropGuard, entered, effect, inputRefusal, roomRefusal, refusal, unless, step}
 use Rattle.store_rules.specs.Answers.{said, numbersOf, bytesOf}
 use Rattle.store_rules.specs.View.{entryOf, entriesSeen, labelsOf, liveOf, guardsSeen, Bodies}
 use Rattle.store_rules.proofs.Lookups.{enter-none}
@@ -22,7 +22,7 @@ use Rattle.store_rules.specs.declared.Held.{Held}
 use Rattle.store_rules.specs.declared.lookup.Search.{Search}
 
 -- what entering says of what its lookup found
-says : (o : Option Found) → heardEntering (showing o) ≡ said (entered (whoseFound o))
+says : (o : Option Found) → heardEntering (showing o) ≡ said long (entered (whoseFound o))
 unfolding said
 says none = refl
 says (some f) = refl

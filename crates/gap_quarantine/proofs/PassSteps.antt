@@ -90,7 +90,7 @@ bytes-of OfSender l = sym (nothing l)
 bytes-of Reorganised l = sym (nothing l)
 bytes-of Finalized l = collect-map deadOf deadBytes l
 
-said-of : (by : Selecting) (n : ℕ) (l : List Entry) → n ≡ length l → heard (answered by n) ≡ said (answerWith by l)
+said-of : (by : Selecting) (n : ℕ) (l : List Entry) → n ≡ length l → heard (answered by n) ≡ said long (answerWith by l)
 unfolding said
 said-of OfSender n l e = ap saysFrames (e ∙ sym (length-map l (λ x. x .frame)))
 said-of Reorganised n l e = ap saysFrames (e ∙ sym (length-map l (λ x. x .frame)))
@@ -109,7 +109,7 @@ module _ (q : Held) (s : Selection) (numbers bytes : List ℕ) (count : ℕ) (co
 
   -- the step, with the count
   step-is : (bodies : Bodies) →
-      step (heldView bodies q) (asked (callOf s) numbers bytes)
+      step (heldView bodies q) (asked long (callOf s) numbers bytes)
       ≡ unless (when Short 5) (heldView bodies q) (
         record {
           entries = walk (λ g. selectRule s) (entriesSeen q) (guardsSeen bodies q) .entries;

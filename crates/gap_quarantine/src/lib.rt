@@ -12,9 +12,9 @@ ghost use mathlib.Core.Bool.{true};
 ghost use mathlib.Core.List.{[]};
 ghost use mathlib.Core.Option.{none};
 ghost use Rattle.store_rules.specs.Frames.{reparked, unhydratable};
-ghost use Rattle.store_rules.specs.Store.{empty, push, poll, guard, evictSender, checkReorg, checkFinalized};
+ghost use Rattle.store_rules.specs.Store.{empty, push, poll, short, guard, evictSender, checkReorg, checkFinalized};
 ghost use Rattle.store_rules.specs.View.{consumedOf, frameOf, kindOf, contentOf, hashOf};
-ghost use Rattle.gap_quarantine.specs.Contracts.{viewOf, Performs, Enters};
+ghost use Rattle.gap_quarantine.specs.Contracts.{viewOf, Performs, PerformsIn, Enters};
 use refusal::Refusal;
 
 mod entering; // entering.rt: entering the tentative state
@@ -30,6 +30,8 @@ pub use passing::check_finalized;
 pub use passing::check_reorg;
 pub use passing::evict_sender;
 pub use polling::poll;
+pub use polling::poll_short;
+pub use polling::poll_short_with_content;
 pub use polling::poll_with_content;
 pub use queries::Boundary;
 pub use queries::HeldState;
@@ -45,6 +47,10 @@ pub use queries::tentative_blocks;
 pub use queries::tentative_count;
 pub use recording::record_repark_guard_with_content;
 pub use recording::record_unhydratable_guard_with_content;
+pub use short_rows::FirstNonce;
+pub use short_rows::Nonces;
+pub use short_rows::first_nonce;
+pub use short_rows::nonces_of;
 pub use store_rules::Entry;
 pub use store_rules::FrameState;
 pub use store_rules::Held;
@@ -60,8 +66,10 @@ pub use store_rules::Whose;
 pub enum Answer {
     // the frames held after a push
     Total(usize),
-    // the rows of a poll
+    // the rows of a poll, each of 19 numbers
     Rows(usize),
+    // the short rows of a poll, each of five
+    ShortRows(usize),
     // a guard was recorded
     Recorded,
     // the frames that an eviction or a reorganisation lists
@@ -162,6 +170,48 @@ impl Quarantine {
         let numbers = self.guard_numbers;
         let contents = self.guard_contents;
         self.after(poll_with_content(
+            held,
+            &numbers,
+            &contents,
+            sender,
+            head,
+            known,
+            nonces,
+            hashes,
+            rows,
+        ))
+    }
+
+    // Polls with short rows: ticket, decision, expected nonce, mark and count.
+    pub fn poll_short(
+        self,
+        sender: [u8; 20],
+        head: u64,
+        known: &[u64],
+        rows: &mut [u64],
+    ) -> Answered
+        ensures { λ r. ⌜ PerformsIn short self (poll sender head (now (known .entry)) none) (now (rows .entry)) [] r (now (rows .exit)) [] ⌝ }
+    {
+        let held = self.held;
+        self.after(poll_short(held, sender, head, known, rows))
+    }
+
+    // The same with the current content.
+    pub fn poll_short_with_content(
+        self,
+        sender: [u8; 20],
+        head: u64,
+        known: &[u64],
+        nonces: &[u64],
+        hashes: &[u8],
+        rows: &mut [u64],
+    ) -> Answered
+        ensures { λ r. ⌜ PerformsIn short self (poll sender head (now (known .entry)) (contentOf true (now (nonces .entry)) (now (hashes .entry)))) (now (rows .entry)) [] r (now (rows .exit)) [] ⌝ }
+    {
+        let held = self.held;
+        let numbers = self.guard_numbers;
+        let contents = self.guard_contents;
+        self.after(poll_short_with_content(
             held,
             &numbers,
             &contents,

@@ -1,19 +1,22 @@
-// A poll, with content or with none.
+// The polls: with content or with none, with long rows or short ones.
 ghost use mathlib.Core.Path.{_≡_};
 ghost use mathlib.Core.Bool.{true};
 ghost use mathlib.Core.List.{[]};
 ghost use mathlib.Core.Option.{none, some};
 ghost use lib.ListN.{length};
-ghost use Rattle.store_rules.specs.Store.{poll, badContent};
+ghost use Rattle.store_rules.specs.Store.{poll, short, badContent};
 ghost use Rattle.store_rules.specs.View.{Bodies, bodiesOf, contentOf};
-ghost use Rattle.gap_quarantine.specs.Contracts.{Always, HeldPerforms, Lent};
+ghost use Rattle.decisions.specs.Courses.{formOf};
+ghost use Rattle.gap_quarantine.specs.Contracts.{Always, AlwaysIn, HeldPerforms, HeldPerformsIn, Lent, rowsIn};
 use super::Answer;
 use super::Outcome;
 use decisions::poll::Course;
-use decisions::poll::Telling;
 use decisions::poll::course_of;
-use decisions::poll::row_of;
 use decisions::poll::stays;
+use decisions::rows::RowForm;
+use decisions::rows::Telling;
+use decisions::rows::put_row;
+use decisions::rows::row_width;
 use guards::drop_guard;
 use refusal::Refusal;
 use store_rules::Held;
@@ -35,10 +38,21 @@ fn bad_content(has_content: bool, nonces: &[u64], hashes: &[u8]) -> bool
     hashes.len() != bytes
 }
 
+// What a poll that wrote n rows answers.
+fn answer_of(form: RowForm, n: usize) -> Answer
+    ensures { λ r. ⌜ r ≡ rowsIn form n ⌝ }
+{
+    match form {
+        RowForm::Long => Answer::Rows(n),
+        RowForm::Short => Answer::ShortRows(n),
+    }
+}
+
 // A poll, which reads the guards' bodies only if content came. The sender's entries are counted first, since a refusal leaves the
 // slice alone.
 fn poll_inner(
     mut h: Held,
+    form: RowForm,
     sender: [u8; 20],
     head: u64,
     known: &[u64],
@@ -51,7 +65,7 @@ fn poll_inner(
 ) -> Outcome
     requires { ⌜ («has_content» ≡ true → (length (now numbers) ≡ 1280) × (length (now contents) ≡ 32768)) ⌝ }
     ensures { λ r. ⌜ ((bodies : Bodies) → Lent «has_content» (now (numbers .entry)) (now (contents .entry)) bodies →
-        HeldPerforms bodies h (poll sender head (now (known .entry)) (contentOf «has_content» (now (nonces .entry)) (now (hashes .entry))))
+        HeldPerformsIn (formOf form) bodies h (poll sender head (now (known .entry)) (contentOf «has_content» (now (nonces .entry)) (now (hashes .entry))))
         (now (rows .entry)) [] r (now (rows .exit)) []) ⌝ }
 {
     if 256 < known.len() {
@@ -79,7 +93,8 @@ fn poll_inner(
             count += 1;
         }
     }
-    let need = 19 * count;
+    let width = row_width(form);
+    let need = width * count;
     if rows.len() < need {
         return Outcome {
             answer: Answer::Refused(Refusal::ShortSlice),
@@ -115,9 +130,8 @@ fn poll_inner(
             w += 1;
             continue;
         };
-        let row = row_of(frame, telling, head, known);
-        let at = 19 * n;
-        lists::put_numbers(&mut *rows, at, &row[..]);
+        let at = width * n;
+        put_row(form, frame, telling, head, known, &mut *rows, at);
         n += 1;
         let Telling::Rescued = telling else {
             let same = h.entries[old];
@@ -131,14 +145,21 @@ fn poll_inner(
     }
     h.len = w;
     Outcome {
-        answer: Answer::Rows(n),
+        answer: answer_of(form, n),
         held: h,
     }
 }
 
-// Polls a sender's frames at this head; the rows go to the slice.
-pub fn poll(h: Held, sender: [u8; 20], head: u64, known: &[u64], rows: &mut [u64]) -> Outcome
-    ensures { λ r. ⌜ Always h (poll sender head (now (known .entry)) none) (now (rows .entry)) [] r (now (rows .exit)) [] ⌝ }
+// A poll with no content: no guard's body is read.
+fn poll_alone(
+    h: Held,
+    form: RowForm,
+    sender: [u8; 20],
+    head: u64,
+    known: &[u64],
+    rows: &mut [u64],
+) -> Outcome
+    ensures { λ r. ⌜ AlwaysIn (formOf form) h (poll sender head (now (known .entry)) none) (now (rows .entry)) [] r (now (rows .exit)) [] ⌝ }
 {
     let nonces = [0u64; 0];
     let hashes = [0u8; 0];
@@ -146,6 +167,7 @@ pub fn poll(h: Held, sender: [u8; 20], head: u64, known: &[u64], rows: &mut [u64
     let contents = [0u8; 0];
     poll_inner(
         h,
+        form,
         sender,
         head,
         known,
@@ -158,7 +180,21 @@ pub fn poll(h: Held, sender: [u8; 20], head: u64, known: &[u64], rows: &mut [u64
     )
 }
 
-// The same with the current content: pairs of a nonce and a hash of 32 bytes. The guards' bodies are lent.
+// Polls a sender's frames at this head; the rows go to the slice.
+pub fn poll(h: Held, sender: [u8; 20], head: u64, known: &[u64], rows: &mut [u64]) -> Outcome
+    ensures { λ r. ⌜ Always h (poll sender head (now (known .entry)) none) (now (rows .entry)) [] r (now (rows .exit)) [] ⌝ }
+{
+    poll_alone(h, RowForm::Long, sender, head, known, rows)
+}
+
+// The same with short rows.
+pub fn poll_short(h: Held, sender: [u8; 20], head: u64, known: &[u64], rows: &mut [u64]) -> Outcome
+    ensures { λ r. ⌜ AlwaysIn short h (poll sender head (now (known .entry)) none) (now (rows .entry)) [] r (now (rows .exit)) [] ⌝ }
+{
+    poll_alone(h, RowForm::Short, sender, head, known, rows)
+}
+
+// Polls with the current content: pairs of a nonce and a hash of 32 bytes. The guards' bodies are lent.
 pub fn poll_with_content(
     h: Held,
     numbers: &[u64; 1280],
@@ -176,6 +212,38 @@ pub fn poll_with_content(
 {
     poll_inner(
         h,
+        RowForm::Long,
+        sender,
+        head,
+        known,
+        true,
+        nonces,
+        hashes,
+        &numbers[..],
+        &contents[..],
+        rows,
+    )
+}
+
+// The same with short rows.
+pub fn poll_short_with_content(
+    h: Held,
+    numbers: &[u64; 1280],
+    contents: &[u8; 32768],
+    sender: [u8; 20],
+    head: u64,
+    known: &[u64],
+    nonces: &[u64],
+    hashes: &[u8],
+    rows: &mut [u64],
+) -> Outcome
+    ensures { λ r. ⌜ HeldPerformsIn short (bodiesOf (now (numbers .entry)) (now (contents .entry))) h
+        (poll sender head (now (known .entry)) (some (record { nonces = now (nonces .entry); hashes = now (hashes .entry) })))
+        (now (rows .entry)) [] r (now (rows .exit)) [] ⌝ }
+{
+    poll_inner(
+        h,
+        RowForm::Short,
         sender,
         head,
         known,

@@ -3,11 +3,13 @@ use Prim.Native.Nat.{ℕ}
 use mathlib.Core.Bool.{Bool, true, false}
 use mathlib.Core.List.{List, [], _∷_, _++_}
 use mathlib.Core.Option.{none, some}
+use lib.Count.{ones}
 use lib.ListN.{length, replicate}
 use Rattle.lists.specs.Bytes.{Bytes}
 use Rattle.lists.specs.Lists.{collect, written}
+use Rattle.short_rows.specs.Mark.{markOf}
 use Rattle.store_rules.specs.Frames.{Frame, ConsumedKind, mined, taken, takenBy, Decision, rescue, nonceConsumed, stillWaiting, Row, Dead}
-use Rattle.store_rules.specs.Store.{RowForm, long, Answer, total, rows, recorded, entered, frames, dead, refused}
+use Rattle.store_rules.specs.Store.{RowForm, long, short, Answer, total, rows, recorded, entered, frames, dead, refused}
 
 -- ---- the numbers of document 01
 
@@ -29,9 +31,13 @@ takerHash (takenBy h) = h
 
 -- ---- what is listed of one frame
 
--- a row is 19 numbers: ticket, decision, count, up to 16 nonces ascending, then zeros
+-- a row is 19 numbers: ticket, decision, count, up to 16 nonces ascending, then zeros;
+-- a short row is five: ticket, decision, expected nonce, the mark of the nonces, and its number of set bits
 unfoldable pub rowNumbers : RowForm → Row → List ℕ
 rowNumbers long r = r .frame .ticket ∷ decisionNumber (r .decision) ∷ length (r .nonces) ∷ written (r .nonces) (replicate 16 0)
+rowNumbers short r =
+    let mark = markOf (r .frame .expected) (r .nonces) in
+    r .frame .ticket ∷ decisionNumber (r .decision) ∷ r .frame .expected ∷ mark ∷ ones mark ∷ []
 
 unfoldable pub ticketNumbers : Frame → List ℕ
 ticketNumbers f = f .ticket ∷ []
@@ -69,7 +75,8 @@ bytesOf (refused n) = []
 
 pub data Said : Type 0 where
   saysTotal : ℕ → Said
-  saysRows : ℕ → Said
+  -- how many rows, and in which form they are written
+  saysRows : RowForm → ℕ → Said
   saysRecorded : Said
   -- true or false; and sender and place, zeros where it is false
   saysEntered : Bool → Bytes → ℕ → Said
@@ -77,12 +84,12 @@ pub data Said : Type 0 where
   saysDead : ℕ → Said
   saysRefused : ℕ → Said
 
-unfoldable pub said : Answer → Said
-said (total n) = saysTotal n
-said (rows l) = saysRows (length l)
-said recorded = saysRecorded
-said (entered (some w)) = saysEntered true (w .sender) (w .place)
-said (entered none) = saysEntered false (replicate 20 0) 0
-said (frames l) = saysFrames (length l)
-said (dead l) = saysDead (length l)
-said (refused n) = saysRefused n
+unfoldable pub said : RowForm → Answer → Said
+said form (total n) = saysTotal n
+said form (rows l) = saysRows form (length l)
+said form recorded = saysRecorded
+said form (entered (some w)) = saysEntered true (w .sender) (w .place)
+said form (entered none) = saysEntered false (replicate 20 0) 0
+said form (frames l) = saysFrames (length l)
+said form (dead l) = saysDead (length l)
+said form (refused n) = saysRefused n

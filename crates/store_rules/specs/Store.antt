@@ -69,12 +69,14 @@ pub data Call : Type 0 where
   -- sender
   evictSender : Bytes → Call
 
--- how the rows of a poll are written: document 01 has one form, of 19 numbers
+-- how the rows of a poll are written: in document 01's form of 19 numbers, or in five (request 2027-03)
 pub data RowForm : Type 0 where
   long : RowForm
+  short : RowForm
 
 unfoldable pub rowWidth : RowForm → ℕ
 rowWidth long = 19
+rowWidth short = 5
 
 -- a call, with the form of its rows and the lengths of the slices lent to it: of numbers, and of bytes (0 where it takes none)
 pub record Request : Type 0 where

@@ -1,9 +1,8 @@
 use Rattle.decisions.specs.declared.poll.Course.the-variants.{Tells}
-use native.Mathlib.Omega.{arith}
 use native.Mathlib.Nat.{sub-zero}
-use mathlib.Core.Path.{_≡_, sym, _∙_}
-use lib.ListN.{length}
+use mathlib.Core.Path.{sym, _∙_}
 use borrow.Author.Tests.{not-true, not-false}
+use Rattle.short_rows.proofs.Gathering.{lists-few, lists-front}
 use Rattle.guards.specs.Recording.{standing}
 use Rattle.decisions.proofs.Deciding.{other, any-guard, no-match, no-guard, guarded, keeps, silent-keeps, matched}
 use borrow.Author.Needs.{needs}
@@ -39,8 +38,8 @@ returns-4 c = λ bodies so.
     let d = rw ((c .before .before) .course .given .1) at ((c .before .before .before .before .before) .decide .ensures) in
     any-guard _ _ _ _ _ _ (sym ((c .before .before .before .before .before .before .before) .same-address .ensures) ∙ not-false _ ((c .before .before .before .before .before .before) .if1 .left)) (Tells ((c .before .before) .course .given .0 .0)) d (keeps ((c .before .before) .course .given .0 .0) (c .match2 .keys2) _ _ _)
 
-predecessors-requires : tie.Need-predecessors-requires
-predecessors-requires c κs = search needs
+listed-requires : tie.Need-listed-requires
+listed-requires c κs = search needs
 
 sub-guard-holds : tie.Need-sub-guard-holds
 sub-guard-holds c = search needs
@@ -49,9 +48,7 @@ part-guard-holds-start : tie.Need-part-guard-holds-start
 part-guard-holds-start c = search needs
 
 part-guard-holds-end : tie.Need-part-guard-holds-end
-part-guard-holds-end c =
-    let h : length ((c .before .before) .predecessors .result .at) ≡ 16 = search needs in
-    omega (arith, (c .before .before) .predecessors .ensures .0)
+part-guard-holds-end c = lists-few _ _ ((c .before .before) .listed .ensures)
 
 guard-holds-requires : tie.Need-guard-holds-requires
 guard-holds-requires c κs = let h = (c .before .before .before .before .before .before .before .before .before .before .before .before .before .before .before .before .before .before .before .before .before) .pre (not-false _ ((c .before .before .before .before .before .before .before .before .before .before) .if2 .left)) in (h .1, h .2, h .0)
@@ -61,14 +58,14 @@ returns-5 c = λ bodies so.
     let s = (c .before .before .before .before .before .before .before .before .before .before .before .before .before .before .before .before .before .before .before .before .before .before .before) .args in
     let has = not-false _ ((c .before .before .before .before .before .before .before .before .before .before .before .before) .if2 .left) in
     let d = rw ((c .before .before .before .before .before .before .before .before .before .before) .course .given .1, (c .before .before .before .before .before .before .before) .enum-told2 .given .1) at ((c .before .before .before .before .before .before .before .before .before .before .before .before .before) .decide .ensures) in
-    guarded _ _ _ _ _ _ (sym ((c .before .before .before .before .before .before .before .before .before .before .before .before .before .before .before) .same-address .ensures) ∙ not-false _ ((c .before .before .before .before .before .before .before .before .before .before .before .before .before .before) .if1 .left)) d (matched (s .e .frame .hash) (standing (s .guards) (s .labels .now)) bodies _ (s .has-content) _ _ _ _ _ _ has (so has) (rw sub-zero ((c .before .before .before .before .before) .predecessors .ensures .1)) ((c .before) .guard-holds .ensures) ∙ c .if3 .taken)
+    guarded _ _ _ _ _ _ (sym ((c .before .before .before .before .before .before .before .before .before .before .before .before .before .before .before) .same-address .ensures) ∙ not-false _ ((c .before .before .before .before .before .before .before .before .before .before .before .before .before .before) .if1 .left)) d (matched (s .e .frame .hash) (standing (s .guards) (s .labels .now)) bodies _ (s .has-content) _ _ _ _ _ _ has (so has) (rw sub-zero (lists-front _ _ ((c .before .before .before .before .before) .listed .ensures))) ((c .before) .guard-holds .ensures) ∙ c .if3 .taken)
 
 returns-6 : tie.Need-returns-6
 returns-6 c = λ bodies so.
     let s = (c .before .before .before .before .before .before .before .before .before .before .before .before .before .before .before .before .before .before .before .before .before .before .before) .args in
     let has = not-false _ ((c .before .before .before .before .before .before .before .before .before .before .before .before) .if2 .left) in
     let d = rw ((c .before .before .before .before .before .before .before .before .before .before) .course .given .1) at ((c .before .before .before .before .before .before .before .before .before .before .before .before .before) .decide .ensures) in
-    no-match _ _ _ _ _ _ (sym ((c .before .before .before .before .before .before .before .before .before .before .before .before .before .before .before) .same-address .ensures) ∙ not-false _ ((c .before .before .before .before .before .before .before .before .before .before .before .before .before .before) .if1 .left)) (Tells ((c .before .before .before .before .before .before .before .before .before .before) .course .given .0 .0)) d (matched (s .e .frame .hash) (standing (s .guards) (s .labels .now)) bodies _ (s .has-content) _ _ _ _ _ _ has (so has) (rw sub-zero ((c .before .before .before .before .before) .predecessors .ensures .1)) ((c .before) .guard-holds .ensures) ∙ c .if3 .left)
+    no-match _ _ _ _ _ _ (sym ((c .before .before .before .before .before .before .before .before .before .before .before .before .before .before .before) .same-address .ensures) ∙ not-false _ ((c .before .before .before .before .before .before .before .before .before .before .before .before .before .before) .if1 .left)) (Tells ((c .before .before .before .before .before .before .before .before .before .before) .course .given .0 .0)) d (matched (s .e .frame .hash) (standing (s .guards) (s .labels .now)) bodies _ (s .has-content) _ _ _ _ _ _ has (so has) (rw sub-zero (lists-front _ _ ((c .before .before .before .before .before) .listed .ensures))) ((c .before) .guard-holds .ensures) ∙ c .if3 .left)
 
 pub course-of-spec : {M : Type 1} → statement M
 course-of-spec =
@@ -83,7 +80,7 @@ course-of-spec =
     returns-3
     enum-told-2
     returns-4
-    predecessors-requires
+    listed-requires
     sub-guard-holds
     part-guard-holds-start
     part-guard-holds-end

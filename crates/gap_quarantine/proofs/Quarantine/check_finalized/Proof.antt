@@ -16,7 +16,7 @@ same-length-2 : tie.Need-same-length-2
 same-length-2 c = search needs
 
 returns : tie.Need-returns
-returns c = whole _ _ _ _ _ _ _ _ ((c .before .before .before .before .before) .check-finalized .ensures _) (c .after .ensures)
+returns c = whole _ _ _ _ _ _ _ _ _ ((c .before .before .before .before .before) .check-finalized .ensures _) (c .after .ensures)
 
 pub check-finalized-spec : {M : Type 1} → statement M
 check-finalized-spec =

@@ -13,7 +13,7 @@ same-length : tie.Need-same-length
 same-length c = search needs
 
 returns : tie.Need-returns
-returns c = whole _ _ _ _ _ _ _ _ ((c .before .before .before) .check-reorg .ensures _) (c .after .ensures)
+returns c = whole _ _ _ _ _ _ _ _ _ ((c .before .before .before) .check-reorg .ensures _) (c .after .ensures)
 
 pub check-reorg-spec : {M : Type 1} → statement M
 check-reorg-spec = tie.close (tie.spec check-reorg-requires after-requires same-length returns)

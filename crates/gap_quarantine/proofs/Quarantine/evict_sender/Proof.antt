@@ -13,7 +13,7 @@ same-length : tie.Need-same-length
 same-length c = search needs
 
 returns : tie.Need-returns
-returns c = whole _ _ _ _ _ _ _ _ ((c .before .before .before) .evict-sender .ensures _) (c .after .ensures)
+returns c = whole _ _ _ _ _ _ _ _ _ ((c .before .before .before) .evict-sender .ensures _) (c .after .ensures)
 
 pub evict-sender-spec : {M : Type 1} → statement M
 evict-sender-spec = tie.close (tie.spec evict-sender-requires after-requires same-length returns)

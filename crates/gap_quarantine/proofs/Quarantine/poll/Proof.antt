@@ -13,7 +13,7 @@ same-length : tie.Need-same-length
 same-length c = search needs
 
 returns : tie.Need-returns
-returns c = whole _ _ _ _ _ _ _ _ ((c .before .before .before) .poll .ensures _) (c .after .ensures)
+returns c = whole _ _ _ _ _ _ _ _ _ ((c .before .before .before) .poll .ensures _) (c .after .ensures)
 
 pub poll-spec : {M : Type 1} → statement M
 poll-spec = tie.close (tie.spec poll-requires after-requires same-length returns)

@@ -13,7 +13,7 @@ same-length : tie.Need-same-length
 same-length c = search needs
 
 returns : tie.Need-returns
-returns c = whole _ _ _ _ _ _ _ _ ((c .before .before .before) .poll-with-content .ensures) (c .after .ensures)
+returns c = whole _ _ _ _ _ _ _ _ _ ((c .before .before .before) .poll-with-content .ensures) (c .after .ensures)
 
 pub poll-with-content-spec : {M : Type 1} → statement M
 poll-with-content-spec =

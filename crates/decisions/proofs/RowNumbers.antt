@@ -1,25 +1,29 @@
 -- Rows: the numbers of one, and how many a poll gives.
-use Prim.Native.Nat.{ℕ, zero, suc, _-_, _≤_, min}
+use Prim.Native.Nat.{ℕ, zero, suc, _+_, _-_, _≤_, min}
 use native.Mathlib.Omega.{arith}
-use mathlib.Core.Path.{_≡_, refl, ap}
+use mathlib.Core.Path.{_≡_, refl, ap, _∙_}
 use mathlib.Core.Bool.{Bool, true, false, cond}
 use mathlib.Core.List.{List, [], _∷_, _++_}
 use mathlib.Core.Option.{Option}
 use lib.Dec.{leb}
-use lib.ListN.{length, set, replicate, length-append, length-drop}
+use lib.Count.{ones}
+use lib.ListN.{length, replicate, length-append}
 use Rattle.lists.specs.Bytes.{Bytes, eqBytes}
 use Rattle.lists.specs.Lists.{keep, written, writtenAt}
 use Rattle.lists.proofs.Elements.{length-keep}
+use Rattle.lists.proofs.Writing.{at-behind}
+use Rattle.short_rows.specs.Mark.{markOf}
 use Rattle.store_rules.specs.Frames.{Frame, Entry, Guard, Row, Visit}
 use Rattle.store_rules.specs.Poll.{Content, numbersFrom, gap, predecessors, unknown, guardMatches, stay, leave, row, pollRule}
 use Rattle.store_rules.specs.Rules.{onlyOf}
 use Rattle.store_rules.specs.Lookup.{entriesOf}
-use Rattle.store_rules.specs.Store.{long, guardOf, dropGuard, walk}
+use Rattle.store_rules.specs.Store.{RowForm, long, short, rowWidth, guardOf, dropGuard, walk}
 use Rattle.store_rules.specs.Answers.{decisionNumber, rowNumbers}
+use Rattle.store_rules.proofs.RowForms.{row-length}
 use Rattle.store_rules.proofs.PollCases.{PollCase, silent, consumed, holds, hold, waits, heldBack, rescued, poll-case}
 use Rattle.decisions.specs.Courses.{decisionOf, noncesOf, isListed, rowOf}
-use Rattle.decisions.specs.declared.poll.Telling.{Telling}
-use Rattle.decisions.specs.declared.poll.Telling.the-variants.{Consumed, Hold, Waits, HeldBack, Rescued}
+use Rattle.decisions.specs.declared.rows.Telling.{Telling}
+use Rattle.decisions.specs.declared.rows.Telling.the-variants.{Consumed, Hold, Waits, HeldBack, Rescued}
 
 -- ---- the nonces of a row
 
@@ -55,19 +59,23 @@ few-nonces t head known f = rw (← nonces-are t head known f) (omega (arith, le
 
 -- ---- the numbers of a row
 
-pub row-width : (t : Telling) (head : ℕ) (known : List ℕ) (f : Frame) → length (rowNumbers long (rowOf t head known f)) ≡ 19
-unfolding rowNumbers
-row-width t head known f =
-    let l : List ℕ = noncesOf t head known f in
-    let n : length (written l (replicate 16 0)) ≡ 16 = simp (length-append, length-drop) (omega (arith, few-nonces t head known f)) in
-    omega arith
+pub row-width : (form : RowForm) (t : Telling) (head : ℕ) (known : List ℕ) (f : Frame) → length (rowNumbers form (rowOf t head known f)) ≡ rowWidth form
+row-width form t head known f = row-length form (rowOf t head known f) (few-nonces t head known f)
 
--- a row whose ticket and decision are written, with its nonces, and then with their count
-pub row-done : (t : Telling) (head : ℕ) (known : List ℕ) (f : Frame) (says count : ℕ) (l out : List ℕ) →
-    out ≡ writtenAt 3 l (set (set (replicate 19 0) 0 (f .ticket)) 1 says) → says ≡ decisionNumber (decisionOf t) → count ≡ length l →
-    l ≡ noncesOf t head known f → set out 2 count ≡ rowNumbers long (rowOf t head known f)
-unfolding rowNumbers
-row-done t head known f says count l out o d c n = rw (o, d, c, n)
+module _ (t : Telling) (head : ℕ) (known : List ℕ) (f : Frame) (at decision : ℕ) (out : List ℕ) (d : decision ≡ decisionNumber (decisionOf t)) where
+  -- a long row: its first three numbers, and then its nonces
+  pub long-row : (count : ℕ) (nonces mid after : List ℕ) → count ≡ length (noncesOf t head known f) → nonces ≡ written (noncesOf t head known f) (replicate 16 0) →
+      at + 3 ≤ length out → mid ≡ writtenAt at (f .ticket ∷ decision ∷ count ∷ []) out → after ≡ writtenAt (at + 3) nonces mid →
+      after ≡ writtenAt at (rowNumbers long (rowOf t head known f)) out
+  unfolding rowNumbers
+  long-row count nonces mid after c n room first rest =
+      rest ∙ rw (first, n, c, d) (at-behind at (f .ticket ∷ decisionNumber (decisionOf t) ∷ length (noncesOf t head known f) ∷ []) (written (noncesOf t head known f) (replicate 16 0)) out room)
+
+  -- a short row
+  pub short-row : (mark count : ℕ) (after : List ℕ) → mark ≡ markOf (f .expected) (noncesOf t head known f) → count ≡ ones mark →
+      after ≡ writtenAt at (f .ticket ∷ decision ∷ f .expected ∷ mark ∷ count ∷ []) out → after ≡ writtenAt at (rowNumbers short (rowOf t head known f)) out
+  unfolding rowNumbers
+  short-row mark count after m c w = w ∙ rw (d, c, m)
 
 -- ---- a poll gives at most one row for each entry of the sender
 

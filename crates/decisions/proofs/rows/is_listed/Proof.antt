@@ -1,8 +1,8 @@
 use mathlib.Core.Path.{ap}
 use mathlib.Core.Bool.{not}
 use borrow.Author.Needs.{needs}
-use Rattle.decisions.proofs.poll.is_listed.Statement.{statement}
-use Rattle.decisions.proofs.poll.is_listed.Tie as tie
+use Rattle.decisions.proofs.rows.is_listed.Statement.{statement}
+use Rattle.decisions.proofs.rows.is_listed.Tie as tie
 
 enum-told : tie.Need-enum-told
 enum-told c = search needs

@@ -1,7 +1,7 @@
 use Rattle.store_rules.specs.Answers.{decisionNumber}
 use borrow.Author.Needs.{needs}
-use Rattle.decisions.proofs.poll.decision_number.Statement.{statement}
-use Rattle.decisions.proofs.poll.decision_number.Tie as tie
+use Rattle.decisions.proofs.rows.decision_number.Statement.{statement}
+use Rattle.decisions.proofs.rows.decision_number.Tie as tie
 
 enum-told : tie.Need-enum-told
 enum-told c = search needs
