@@ -23,7 +23,7 @@ use Rattle.store_rules.specs.Store.{empty, guardOf, isGuarded, Call, push, Answ
 use Rattle.order_rule.specs.Orders
 use Rattle.order_rule.specs.Orders.{Key, sender, alone, pushOf, ownerIn, keyBy, OneSender, Keyed, nothing, also, rest, cut, transcript, aboutRoom, EnoughRoom}
 use Rattle.order_rule.specs.Premises
-use Rattle.order_rule.specs.Premises.{InTwoOrders, BothHaveRoom, StoresDiffer, a, b, h, i, frame, parks, parksOf, guardsOf, enterBefore, enterAfter, finalityLast, finalityBetween, reorgLast, reorgBetween, pollAfter, pollBefore, fiveThenSix, sixThenFive, evictFirst, evictLast, pollShort, dropFirst, dropLast, aThenB, bBetween, Premises}
+use Rattle.order_rule.specs.Premises.{InTwoOrders, BothHaveRoom, StoresDiffer, a, b, h, i, frame, parks, parksOf, guardsOf, enterBefore, enterAfter, finalityLast, finalityBetween, reorgLast, reorgBetween, pollAfter, pollBefore, fiveThenSix, sixThenFive, evictFirst, evictLast, pollLacksRoom, shortLacksRoom, dropFirst, dropLast, aThenB, bBetween, Premises}
 use Rattle.order_rule.proofs.Swap.{swap}
 use Rattle.order_rule.proofs.Theorem.{order-rule}
 
@@ -60,7 +60,7 @@ hasBoundary n (some g) = boundaryHolds (g .kind) n
 -- ---- the claims
 
 pub premises : Premises
-unfolding Store.refusal run empty Store.step Store.unless orElse Store.inputRefusal Store.roomRefusal Store.rowWidth Store.effect Store.walk Store.walked Store.insert Store.fresh Lookup.enters Lookup.foundBehind Lookup.firstOf Lookup.lookup Lookup.isFound Lookup.enterWith Lookup.enterHead Lookup.enterFirst isTracked guardOf isGuarded Store.dropGuard Store.putGuard Store.after Store.when Store.wideGap Store.badContent Store.badContents Store.noRoomFor Store.listed Lookup.entriesOf calls keep Search.firstAt Lists.isEmpty Lists.isIn eqBytes leBytes degraded Poll.numbersFrom Poll.gap Poll.predecessors Poll.unknown boundaryHolds Poll.guardMatches Poll.stay Poll.leave Poll.pollFull Poll.pollIn Poll.pollGiven Poll.pollRule Rules.onlyOf Rules.evictRule Rules.differs Rules.reorgIn Rules.reorgRule Rules.finalIn Rules.finalRule keyBy ownerIn Orders.ownerBy pushOf transcript Orders.shown aboutRoom Orders.eqKey Orders.isFor Orders.ofKey misfits hasBoundary a b h i frame Premises.ask parks parksOf Premises.enters100 Premises.finalized100 Premises.reorganised100 Premises.polls Premises.guards guardsOf enterBefore enterAfter finalityLast finalityBetween reorgLast reorgBetween pollAfter pollBefore fiveThenSix sixThenFive evictFirst evictLast pollShort dropFirst dropLast aThenB bBetween
+unfolding Store.refusal run empty Store.step Store.unless orElse Store.inputRefusal Store.roomRefusal Store.rowWidth Store.effect Store.walk Store.walked Store.insert Store.fresh Lookup.enters Lookup.foundBehind Lookup.firstOf Lookup.lookup Lookup.isFound Lookup.enterWith Lookup.enterHead Lookup.enterFirst isTracked guardOf isGuarded Store.dropGuard Store.putGuard Store.after Store.when Store.wideGap Store.badContent Store.badContents Store.noRoomFor Store.listed Lookup.entriesOf calls keep Search.firstAt Lists.isEmpty Lists.isIn eqBytes leBytes degraded Poll.numbersFrom Poll.gap Poll.predecessors Poll.unknown boundaryHolds Poll.guardMatches Poll.stay Poll.leave Poll.pollFull Poll.pollIn Poll.pollGiven Poll.pollRule Rules.onlyOf Rules.evictRule Rules.differs Rules.reorgIn Rules.reorgRule Rules.finalIn Rules.finalRule keyBy ownerIn Orders.ownerBy pushOf transcript Orders.shown aboutRoom Orders.eqKey Orders.isFor Orders.ofKey misfits hasBoundary a b h i frame Premises.ask parks parksOf Premises.enters100 Premises.finalized100 Premises.reorganised100 Premises.polls Premises.pollsShort Premises.guards guardsOf enterBefore enterAfter finalityLast finalityBetween reorgLast reorgBetween pollAfter pollBefore fiveThenSix sixThenFive evictFirst evictLast pollLacksRoom shortLacksRoom dropFirst dropLast aThenB bBetween
 premises = record {
   oneSender = (
     rest (swap (keyBy (ownerIn (calls enterBefore))) _ _ (sender b) (sender a) refl refl refl (also (sender b) refl nothing) nothing),
@@ -100,7 +100,13 @@ premises = record {
     rest (record { keyed = (asked, asked); same = λ k. refl }),
     one-sender (λ x. a) (calls pollAfter) refl,
     (room pollAfter refl, refl),
-    apart (λ e. true) pollAfter pollShort refl,
+    apart (λ e. true) pollAfter pollLacksRoom refl,
+  );
+  room5Short = (
+    rest (record { keyed = (asked, asked); same = λ k. refl }),
+    one-sender (λ x. a) (calls pollAfter) refl,
+    (room pollAfter refl, refl),
+    apart (λ e. true) pollAfter shortLacksRoom refl,
   );
   room8 = (
     rest (swap (keyBy (ownerIn (calls dropFirst))) _ _ (sender a) (alone i) refl refl refl (also (sender a) refl (also (sender a) refl (guarded 63))) nothing),

@@ -95,7 +95,8 @@ module _ {A : Type 0} (keyOf : A → Option Key) where
 
 -- ---- what is compared
 
--- all that a call answers (rows, lists, their number, true or false with sender and place, refusal) except a push's total
+-- all that a call answers (rows, lists, their number, true or false with sender and place, refusal) except a push's total; a poll's
+-- rows as they tell of the frames, in whichever form each list asks for them
 unfoldable pub shown : Answer → Answer
 shown (total n) = total 0
 shown (rows l) = rows l

@@ -8,7 +8,7 @@ use lib.ListN.{replicate}
 use Rattle.lists.specs.Bytes.{Bytes}
 use Rattle.lists.specs.Lists.{keep}
 use Rattle.store_rules.specs.Frames.{Frame, mined, reparked}
-use Rattle.store_rules.specs.Store.{empty, SameStore, Call, long, push, poll, guard, enterTentative, checkReorg, checkFinalized, evictSender, Answer, refused, Request, run, calls}
+use Rattle.store_rules.specs.Store.{empty, SameStore, Call, long, short, push, poll, guard, enterTentative, checkReorg, checkFinalized, evictSender, Answer, refused, Request, run, calls}
 use Rattle.order_rule.specs.Orders.{Key, sender, ownerIn, keyBy, OneSender, ofKey, TwoOrders, transcript, aboutRoom, EnoughRoom}
 
 -- ---- what is said of two lists
@@ -71,6 +71,10 @@ reorganised100 = ask (checkReorg 100 none)
 unfoldable pub polls : Bytes → Request
 polls from = ask (poll from 5 (5 ∷ 6 ∷ 7 ∷ []) none)
 
+-- the same with short rows, for 64 frames too
+unfoldable pub pollsShort : Bytes → Request
+pollsShort from = record { call = polls from .call; form = short; numbers = 5 * 64; bytes = 0 }
+
 -- a guard with this boundary
 unfoldable pub guards : Bytes → ℕ → Request
 guards hash boundary = ask (guard (record { hash = hash; kind = reparked boundary; predecessors = []; contents = [] }))
@@ -130,8 +134,11 @@ evictLast = parksOf 64 ++ parks i b ∷ ask (evictSender a) ∷ []
 
 -- ---- refusal 5 in one list: the calls of `pollAfter` in the same order, but the poll's slice has a number too few for its row
 
-unfoldable pub pollShort : List Request
-pollShort = parks h a ∷ record { call = polls a .call; form = long; numbers = 18; bytes = 0 } ∷ []
+unfoldable pub pollLacksRoom : List Request
+pollLacksRoom = parks h a ∷ record { call = polls a .call; form = long; numbers = 18; bytes = 0 } ∷ []
+
+unfoldable pub shortLacksRoom : List Request
+shortLacksRoom = parks h a ∷ record { call = polls a .call; form = short; numbers = 4; bytes = 0 } ∷ []
 
 -- ---- refusal 8 in one order: the guard of i comes when 64 guards stand, or when a's eviction has dropped that of h
 
@@ -146,13 +153,13 @@ dropFirst = parks h a ∷ guards h 5 ∷ guardsOf 63 ++ ask (evictSender a) ∷ 
 unfoldable pub dropLast : List Request
 dropLast = parks h a ∷ guards h 5 ∷ guardsOf 63 ++ guards i 5 ∷ ask (evictSender a) ∷ []
 
--- ---- lists that satisfy all premises: two senders, and a reorganisation between that revives a's frame
+-- ---- lists that satisfy all premises: two senders, b polled with short rows, and a reorganisation between that revives a's frame
 
 unfoldable pub aThenB : List Request
-aThenB = parks h a ∷ enters100 h ∷ parks i b ∷ reorganised100 ∷ polls a ∷ polls b ∷ []
+aThenB = parks h a ∷ enters100 h ∷ parks i b ∷ reorganised100 ∷ polls a ∷ pollsShort b ∷ []
 
 unfoldable pub bBetween : List Request
-bBetween = parks h a ∷ parks i b ∷ enters100 h ∷ reorganised100 ∷ polls b ∷ polls a ∷ []
+bBetween = parks h a ∷ parks i b ∷ enters100 h ∷ reorganised100 ∷ pollsShort b ∷ polls a ∷ []
 
 -- ---- the claims
 
@@ -182,7 +189,9 @@ pub record Premises : Type 0 where
   -- without the premise on room, for one of the two runs: 64 frames are held
   pub room2 : InTwoOrders evictFirst evictLast × OneSender (calls evictFirst) × OnlySecondRefused 2 evictFirst evictLast × StoresDiffer evictFirst evictLast
   -- the rows are shorter than 19 times the sender's entries
-  pub room5 : InTwoOrders pollAfter pollShort × OneSender (calls pollAfter) × OnlySecondRefused 5 pollAfter pollShort × StoresDiffer pollAfter pollShort
+  pub room5 : InTwoOrders pollAfter pollLacksRoom × OneSender (calls pollAfter) × OnlySecondRefused 5 pollAfter pollLacksRoom × StoresDiffer pollAfter pollLacksRoom
+  -- short rows are shorter than five times the sender's entries
+  pub room5Short : InTwoOrders pollAfter shortLacksRoom × OneSender (calls pollAfter) × OnlySecondRefused 5 pollAfter shortLacksRoom × StoresDiffer pollAfter shortLacksRoom
   -- 64 guards, none of this hash
   pub room8 : InTwoOrders dropFirst dropLast × OneSender (calls dropFirst) × OnlySecondRefused 8 dropFirst dropLast × StoresDiffer dropFirst dropLast
   -- all of them together, and what the rule then says of the stores

@@ -4,3 +4,4 @@ pub mod Reachable
 pub mod Placing
 pub mod Listings
 pub mod Lookups
+pub mod ShortRows

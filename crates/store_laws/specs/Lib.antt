@@ -2,3 +2,4 @@ pub mod Refusals
 pub mod Reachable
 pub mod Listings
 pub mod Lookups
+pub mod ShortRows

@@ -1,3 +1,4 @@
 pub mod Setting
+pub mod ShortRows
 pub mod Starred
 pub mod Tempting

@@ -1,1 +1,1 @@
-// Document 01's worked examples: claims in specs/, proofs in proofs/. No code is added.
+// Worked examples, document 01's and a request's: claims in specs/, proofs in proofs/. No code is added.
