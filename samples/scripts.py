@@ -29,9 +29,13 @@ def push(hash_=F, sender=A, expected=5, claim=8, chain=1, gas=21000, ticket=7):
     return b"CP" + hash_ + sender + u64(expected, claim, chain, gas, ticket)
 
 
-def poll(head, known=(), content=None, sender=A):
+def poll(head, known=(), content=None, sender=A, mark=b"CQ"):
     tail = b"\0" if content is None else b"\1" + numbers([n for n, _ in content]) + octets(b"".join(h for _, h in content))
-    return b"CQ" + sender + u64(head) + numbers(list(known)) + tail
+    return mark + sender + u64(head) + numbers(list(known)) + tail
+
+
+def poll_short(head, known=(), content=None, sender=A):
+    return poll(head, known, content, sender, b"CM")
 
 
 def repark(preds, contents, boundary=5, hash_=F):
@@ -120,12 +124,13 @@ REFUSALS = [
     # 2: a 65th frame
     [push(ticket=n) for n in range(65)],
     # 3: 257 known nonces, and 256
-    [push(), poll(5, range(257)), poll(5, range(256))],
+    [push(), poll(5, range(257)), poll_short(5, range(257)), poll(5, range(256))],
     # 4: 65 pairs; a hash too short; 64 pairs
     [
         push(),
         poll(5, (), [(n, H) for n in range(65)]),
         poll(5, (), [(5, H), (6, H[1:])]),
+        poll_short(5, (), [(5, H), (6, H[1:])]),
         poll(5, (), [(n, H) for n in range(64)]),
     ],
     # 6 and 7: 17 predecessors; 33 bytes; 17 hashes; 16 of each
@@ -172,6 +177,17 @@ CALLS = [
     [push(), enter(1, 100), repark([7], H), has_guard(), final(100), DUMP],
     [push(), push(ticket=4), repark([7], H), evict(), evict(), DUMP],
     [push(), push(claim=7, ticket=4), repark([5, 6], H), poll(5, (5, 6, 7), [(5, H)]), DUMP],
+    # short rows beside long ones: waiting, consumed, guarded and rescued
+    [
+        push(),
+        poll(5, (5, 7)),
+        poll_short(5, (5, 7)),
+        poll_short(9),
+        repark([7], H),
+        poll_short(7, (7,), [(7, H)]),
+        poll_short(5, (5, 6, 7)),
+        DUMP,
+    ],
     # a held head survives a revival
     [push(chain=0, gas=0), poll(5), enter(1, 100), poll(6), reorg(100), poll(5), poll(6)],
 ]

@@ -2,6 +2,7 @@
 use super::print;
 use super::script;
 use console::Output;
+use gap_quarantine::Answered;
 use gap_quarantine::NonceConsumed;
 use gap_quarantine::ParkedFrame;
 use gap_quarantine::Quarantine;
@@ -26,9 +27,42 @@ pub(crate) fn push(out: &mut Output, q: Quarantine, s: &[u8]) -> Quarantine {
     store
 }
 
-// A poll, with content or without.
+// A poll without content, with long rows or short ones.
+fn poll_alone(
+    q: Quarantine,
+    short: bool,
+    sender: [u8; 20],
+    head: u64,
+    known: &[u64],
+    rows: &mut [u64],
+) -> Answered {
+    if short {
+        return q.poll_short(sender, head, known, rows);
+    }
+    q.poll(sender, head, known, rows)
+}
+
+// A poll with content, with long rows or short ones.
+fn poll_with_content(
+    q: Quarantine,
+    short: bool,
+    sender: [u8; 20],
+    head: u64,
+    known: &[u64],
+    nonces: &[u64],
+    hashes: &[u8],
+    rows: &mut [u64],
+) -> Answered {
+    if short {
+        return q.poll_short_with_content(sender, head, known, nonces, hashes, rows);
+    }
+    q.poll_with_content(sender, head, known, nonces, hashes, rows)
+}
+
+// A poll, with content or without; the mark says how its rows are written.
 pub(crate) fn poll(out: &mut Output, q: Quarantine, s: &[u8]) -> Quarantine {
     let mut rows = [0u64; 1216];
+    let short = script::byte_at(s, 1) == b'M';
     let sender = script::address_at(s, 2);
     let head = script::number_at(s, 22);
     let known = script::numbers_at(s, 30);
@@ -36,10 +70,16 @@ pub(crate) fn poll(out: &mut Output, q: Quarantine, s: &[u8]) -> Quarantine {
     let known_list = known.list;
     let at = script::after_list(s, 30, 8);
     if script::byte_at(s, at) == 0 {
-        let r = q.poll(sender, head, &known_list[0..known_count], &mut rows);
+        let r = poll_alone(
+            q,
+            short,
+            sender,
+            head,
+            &known_list[0..known_count],
+            &mut rows,
+        );
         let answer = r.answer;
-        let n = print::answer(out, answer);
-        print::rows(out, &rows, 19, n);
+        print::polled(out, answer, &rows);
         let store = r.store;
         return store;
     }
@@ -48,7 +88,9 @@ pub(crate) fn poll(out: &mut Output, q: Quarantine, s: &[u8]) -> Quarantine {
     let nonce_count = nonces.count;
     let nonce_list = nonces.list;
     let hashes = script::bytes_at(s, script::after_list(s, pairs, 8));
-    let r = q.poll_with_content(
+    let r = poll_with_content(
+        q,
+        short,
         sender,
         head,
         &known_list[0..known_count],
@@ -57,8 +99,7 @@ pub(crate) fn poll(out: &mut Output, q: Quarantine, s: &[u8]) -> Quarantine {
         &mut rows,
     );
     let answer = r.answer;
-    let n = print::answer(out, answer);
-    print::rows(out, &rows, 19, n);
+    print::polled(out, answer, &rows);
     let store = r.store;
     store
 }

@@ -95,6 +95,10 @@ pub(crate) fn answer(out: &mut Output, a: Answer) -> usize {
             count(out, b"rows", n);
             n
         }
+        Answer::ShortRows(n) => {
+            count(out, b"short", n);
+            n
+        }
         Answer::Recorded => {
             text(out, b"done");
             0
@@ -130,6 +134,16 @@ pub(crate) fn rows(out: &mut Output, list: &[u64], width: usize, rows: usize) {
         at = end;
         i += 1;
     }
+}
+
+// A poll's answer and its rows, which are as wide as the answer says.
+pub(crate) fn polled(out: &mut Output, a: Answer, list: &[u64]) {
+    let n = answer(out, a);
+    if let Answer::ShortRows(_) = a {
+        rows(out, list, 5, n);
+        return;
+    }
+    rows(out, list, 19, n);
 }
 
 // Rows of so many numbers and so many hashes of 32 bytes, each row behind a bar.

@@ -188,7 +188,7 @@ pub(crate) fn call_size(s: &[u8]) -> usize {
     }
     match byte_at(s, 1) {
         b'P' => after(s, 2, 92),
-        b'Q' => after_content(s, after_list(s, after(s, 2, 28), 8)),
+        b'Q' | b'M' => after_content(s, after_list(s, after(s, 2, 28), 8)),
         b'G' => guard_size(s),
         b'E' => enter_size(s),
         b'R' => after_optional_hash(s, after(s, 2, 8)),

@@ -34,7 +34,35 @@ fn poll_with_content(out: &mut Output, rows: &mut [u64]) {
     print::stores(out, q, after);
 }
 
-// Both polls, lent a slice that is one number short, and one that is just long enough.
+// A poll that rescues both frames with short rows: five numbers each.
+fn poll_short(out: &mut Output, rows: &mut [u64]) {
+    let q = tracked();
+    let known = [0u64; 0];
+    print::call(out, b"poll_short", rows.len());
+    let r = q.poll_short([1u8; 20], 8, &known, &mut *rows);
+    let answer = r.answer;
+    let after = r.store;
+    print::answer(out, answer);
+    print::numbers(out, Name::Only, rows, 10);
+    print::stores(out, q, after);
+}
+
+// The same with content.
+fn poll_short_with_content(out: &mut Output, rows: &mut [u64]) {
+    let q = tracked();
+    let known = [0u64; 0];
+    let nonces = [7u64; 1];
+    let hashes = [9u8; 32];
+    print::call(out, b"poll_short_with_content", rows.len());
+    let r = q.poll_short_with_content([1u8; 20], 8, &known, &nonces, &hashes, &mut *rows);
+    let answer = r.answer;
+    let after = r.store;
+    print::answer(out, answer);
+    print::numbers(out, Name::Only, rows, 10);
+    print::stores(out, q, after);
+}
+
+// The polls, lent a slice that is one number short, and one that is just long enough.
 pub(crate) fn polls(out: &mut Output) {
     let mut short = [MARK as u64; 37];
     poll(out, &mut short);
@@ -44,6 +72,14 @@ pub(crate) fn polls(out: &mut Output) {
     poll_with_content(out, &mut short);
     let mut whole = [MARK as u64; 38];
     poll_with_content(out, &mut whole);
+    let mut short = [MARK as u64; 9];
+    poll_short(out, &mut short);
+    let mut whole = [MARK as u64; 10];
+    poll_short(out, &mut whole);
+    let mut short = [MARK as u64; 9];
+    poll_short_with_content(out, &mut short);
+    let mut whole = [MARK as u64; 10];
+    poll_short_with_content(out, &mut whole);
 }
 
 // The eviction of the sender: a ticket each.
@@ -118,6 +154,10 @@ pub(crate) fn longer(out: &mut Output) {
     poll(out, &mut rows);
     let mut rows = [MARK as u64; 41];
     poll_with_content(out, &mut rows);
+    let mut rows = [MARK as u64; 13];
+    poll_short(out, &mut rows);
+    let mut rows = [MARK as u64; 13];
+    poll_short_with_content(out, &mut rows);
     let mut tickets = [MARK as u64; 5];
     evict(out, &mut tickets);
     let mut tickets = [MARK as u64; 5];

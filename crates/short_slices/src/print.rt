@@ -32,6 +32,7 @@ fn refused(out: &mut Output, x: Refusal) {
 pub(crate) fn answer(out: &mut Output, a: Answer) {
     match a {
         Answer::Rows(n) => count(out, b"rows", n as u64),
+        Answer::ShortRows(n) => count(out, b"short", n as u64),
         Answer::Frames(n) => count(out, b"tickets", n as u64),
         Answer::Dead(n) => count(out, b"dead", n as u64),
         Answer::Refused(x) => refused(out, x),
