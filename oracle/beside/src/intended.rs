@@ -130,10 +130,15 @@ pub const ALL: &[(&str, Check)] = &[
         let read = Journal::new(folder).read_lines(&[park_line(&small), park_line(&capital)]);
         read.pending[0].frame.hash == capital
     }),
+    ("short rows: each decision comes with its frame, and so with the frame's expected nonce", |_| {
+        let mut q = Quarantine::new();
+        q.push(parked(&frame(1, 5, 8)));
+        matches!(&q.poll(SENDER, 9, &[])[..], [(f, QuarantineDecision::NonceConsumed)] if f.expected_at_capture == 5)
+    }),
     ("guards go by hash: another sender's rescue drops a frame's guard", |_| {
         let mut twin = frame(1, 5, 8);
         twin.from = [2; 20];
-        let rescue = Call::Poll { sender: [2; 20], head: 8, known: Vec::new(), content: None };
+        let rescue = Call::poll([2; 20], 8, Vec::new(), None);
         let calls = [push(), guard(None, &[]), Call::Push(twin), rescue, poll(8, &[], Some((&[77], &[9; 32])))];
         matches!(rows(&calls), [1])
     }),
@@ -158,7 +163,7 @@ fn guard(boundary: Option<u64>, predecessors: &[u64]) -> Call {
 
 fn poll(head: u64, known: &[u64], content: Option<(&[u64], &[u8])>) -> Call {
     let content = content.map(|(nonces, hashes)| Content { nonces: nonces.to_vec(), hashes: hashes.to_vec() });
-    Call::Poll { sender: SENDER.0, head, known: known.to_vec(), content }
+    Call::poll(SENDER.0, head, known.to_vec(), content)
 }
 
 /// What the last call answers.

@@ -121,12 +121,14 @@ impl Run<'_> {
     }
 
     fn orders(&mut self) {
-        let (mut pairs, mut reordered, mut differences, mut reversed, mut misplaced) = (0, 0, 0, 0, 0);
+        let (mut pairs, mut reordered, mut short, mut differences, mut reversed, mut misplaced) = (0, 0, 0, 0, 0, 0);
         for seed in self.sizes.seed..self.sizes.seed + self.sizes.orders {
             match order::try_orders(seed) {
                 order::Outcome::NoRoom => {}
                 order::Outcome::SameOrder => pairs += 1,
-                order::Outcome::Equal => (pairs, reordered) = (pairs + 1, reordered + 1),
+                order::Outcome::Equal { short_rows } => {
+                    (pairs, reordered, short) = (pairs + 1, reordered + 1, short + usize::from(short_rows));
+                }
                 order::Outcome::Different(says) => {
                     (pairs, reordered, differences) = (pairs + 1, reordered + 1, differences + 1);
                     println!("DIFFERENCE between two orders: {says}");
@@ -136,7 +138,7 @@ impl Run<'_> {
             misplaced += usize::from(order::wrong_place_differs(seed));
         }
         print!("order rule, on the Rust with the model's sender and place: {pairs} pairs with room, ");
-        println!("{reordered} truly reordered, {differences} differences");
+        println!("{reordered} truly reordered, {short} of them with short rows, {differences} differences");
         println!("  the reverse of the list, which is no legal order, was told apart in {reversed}");
         println!("  a place counted over all senders, which hangs on the order, was told apart in {misplaced}");
         self.differences += differences;

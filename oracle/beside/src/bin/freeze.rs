@@ -15,6 +15,7 @@ use beside::scratch::Scratch;
 use beside::store::answers::Answer;
 use beside::store::calls::Call;
 use beside::store::due::Due;
+use beside::store::generate::{long_script, script};
 use beside::store::script::{led, Script};
 use beside::store::{self, strength as stores};
 use std::collections::BTreeSet;
@@ -24,7 +25,7 @@ use std::path::Path;
 /// Random inputs are looked through from this seed on.
 const SEED: u64 = 1_000_000;
 
-/// How many random scripts, journals and records to write are kept beside the small ones.
+/// How many random scripts, as many more with short polls, journals and records to write are kept beside the small ones.
 const RANDOM_SCRIPTS: u64 = 8;
 const RANDOM_JOURNALS: u64 = 30;
 const RANDOM_RECORDS: usize = 20;
@@ -44,6 +45,9 @@ const LENGTHS_ONLY: [Wrong; 6] = [
 
 /// The refusals that a script can meet, whose slices are always long enough.
 const STORE_REFUSALS: [u8; 7] = [1, 2, 3, 4, 6, 7, 8];
+
+/// Those of them that a poll can meet.
+const POLL_REFUSALS: [u8; 2] = [3, 4];
 
 /// The refusals that random journals with a long output, and records alone, meet.
 const FOLD_REFUSALS: [u8; 3] = [10, 11, 12];
@@ -89,14 +93,27 @@ fn scripts() -> Vec<Script> {
     // each refusal once more, in a script as it was made
     for number in STORE_REFUSALS {
         let refuses = |script: &Script| answers(script).contains(&Answer::Refused(number));
-        let seed = (SEED..).find(|seed| refuses(&store::generate::script(*seed))).expect("the seeds do not end");
-        list.push(store::generate::script(seed));
+        list.push((SEED..).map(long_script).find(refuses).expect("the seeds do not end"));
     }
-    list.extend((SEED..SEED + RANDOM_SCRIPTS).map(store::generate::script));
+    list.extend((SEED..SEED + RANDOM_SCRIPTS).map(long_script));
     // scripts that break off
-    list.extend((SEED..).map(store::generate::script).filter(|s| !s.broken.is_empty() && s.calls.len() < 20).take(6));
+    list.extend((SEED..).map(long_script).filter(|s| !s.broken.is_empty() && s.calls.len() < 20).take(6));
+    list.extend(scripts_with_short());
     let marks: BTreeSet<&str> = list.iter().flat_map(|s| s.calls.iter().map(Call::mark)).collect();
-    assert_eq!(marks.len(), 16, "every call stands in the sample");
+    assert_eq!(marks.len(), 17, "every call stands in the sample");
+    list
+}
+
+/// Scripts as they were made, with short polls: each refusal of one, random ones, and some that break off in one.
+fn scripts_with_short() -> Vec<Script> {
+    let refuses = |script: &Script, number: u8| {
+        let mut answered = script.calls.iter().zip(answers(script));
+        answered.any(|(call, answer)| call.mark() == "CM" && answer == Answer::Refused(number))
+    };
+    let first = |number: u8| (SEED..).map(script).find(|s| refuses(s, number)).expect("the seeds do not end");
+    let mut list: Vec<Script> = POLL_REFUSALS.map(first).into();
+    list.extend((SEED + RANDOM_SCRIPTS..SEED + 2 * RANDOM_SCRIPTS).map(script));
+    list.extend((SEED..).map(script).filter(|s| s.broken.starts_with(b"CM") && s.calls.len() < 20).take(2));
     list
 }
 

@@ -1,8 +1,8 @@
 //! The kinds that one call of the store meets. What a frame was before the call is read from the model, which is held beside
 //! the Rust on every call.
 use super::{Kind, Seen};
-use crate::store::answers::{Answer, Entry, Row, State, Whose};
-use crate::store::calls::{Address, Call};
+use crate::store::answers::{Answer, Entry, Row, ShortRow, State, Whose};
+use crate::store::calls::{Address, Call, Form};
 use crate::store::model::Model;
 
 /// Notes what is answered to a call, made when the store was as the model has it.
@@ -11,7 +11,15 @@ pub fn see_call(seen: &mut Seen, call: &Call, before: &Model, answer: &Answer) {
         seen.see(of_whose(call, before, whose));
     }
     match (call, answer.told()) {
-        (Call::Poll { sender, head, known, .. }, Answer::Rows(rows)) => see_poll(seen, *sender, *head, known, before, rows),
+        (Call::Poll { sender, head, known, .. }, Answer::Rows(rows)) => {
+            let rows: Vec<Listed> = rows.iter().map(of_long).collect();
+            polled(*sender, *head, known, before, &rows).into_iter().for_each(|kind| seen.see(kind));
+        }
+        (Call::Poll { sender, head, known, .. }, Answer::Short(rows)) => {
+            rows.iter().for_each(|row| see_mark(seen, row));
+            let rows: Vec<Listed> = rows.iter().map(of_short).collect();
+            polled(*sender, *head, known, before, &rows).into_iter().for_each(|kind| seen.see(in_short(kind)));
+        }
         (Call::Guard(g), Answer::Done) => {
             let held = before.guards.iter().any(|held| held.hash == g.hash);
             seen.see(if held { Kind::GuardReplaced } else { Kind::GuardNew });
@@ -54,6 +62,7 @@ fn consumed(number: u8, kinds: [Kind; 3]) -> Kind {
 fn kind(call: &Call, answer: &Answer) -> Kind {
     let either = |first: bool, yes: Kind, no: Kind| if first { yes } else { no };
     match (call, answer) {
+        (Call::Poll { form: Form::Short, .. }, Answer::Refused(number)) => in_short(refused(*number)),
         (_, Answer::Refused(number)) => refused(*number),
         (_, Answer::Total(_)) => Kind::PushTotal,
         (Call::Enter { .. }, Answer::Truth(b)) => either(*b, Kind::EnterTrue, Kind::EnterFalse),
@@ -70,7 +79,7 @@ fn kind(call: &Call, answer: &Answer) -> Kind {
         (Call::Len, Answer::Number(n)) => either(*n == 0, Kind::LenZero, Kind::LenMore),
         (_, Answer::Number(n)) => either(*n == 0, Kind::TentativeZero, Kind::TentativeMore),
         (_, Answer::Dump(_)) => Kind::Dump,
-        (_, Answer::Rows(_) | Answer::Done | Answer::Dead(_) | Answer::Of(..)) => {
+        (_, Answer::Rows(_) | Answer::Short(_) | Answer::Done | Answer::Dead(_) | Answer::Of(..)) => {
             panic!("{} does not answer so", call.mark())
         }
     }
@@ -89,29 +98,79 @@ fn refused(number: u8) -> Kind {
     }
 }
 
-/// Every entry of the sender has a row, or a reason to have none.
-fn see_poll(seen: &mut Seen, sender: Address, head: u64, known: &[u64], before: &Model, rows: &[Row]) {
+// ---- polls
+
+/// A row's code, and the nonces that it lists.
+type Listed = (u64, Vec<u64>);
+
+fn of_long(row: &Row) -> Listed {
+    (row[1], row[3..3 + row[2] as usize].to_vec())
+}
+
+fn of_short(row: &ShortRow) -> Listed {
+    let set = (0..16).filter(|i| (row[3] >> i) & 1 == 1);
+    (row[1], set.map(|i| row[2] + i).collect())
+}
+
+/// The kinds of the marks that a short row may have.
+fn see_mark(seen: &mut Seen, row: &ShortRow) {
+    let (expected, mark) = (row[2], row[3] as u16);
+    let from_lowest = mark.checked_shr(mark.trailing_zeros()).unwrap_or(0);
+    let kinds = [
+        (Kind::MarkSeveral, mark.count_ones() > 1),
+        (Kind::MarkBroken, from_lowest & from_lowest.wrapping_add(1) != 0),
+        (Kind::MarkHighest, mark >> 15 == 1),
+        (Kind::MarkFull, mark == u16::MAX),
+        (Kind::MarkNearEnd, mark != 0 && expected > u64::MAX - 15),
+    ];
+    kinds.into_iter().filter(|(_, holds)| *holds).for_each(|(kind, _)| seen.see(kind));
+}
+
+/// The kind of a short poll beside a long one's.
+fn in_short(kind: Kind) -> Kind {
+    match kind {
+        Kind::Poll3 => Kind::ShortPoll3,
+        Kind::Poll4 => Kind::ShortPoll4,
+        Kind::PollNobody => Kind::ShortNobody,
+        Kind::RescueNonces => Kind::ShortRescueNonces,
+        Kind::RescueNone => Kind::ShortRescueNone,
+        Kind::Consumed => Kind::ShortConsumed,
+        Kind::ConsumedDegraded => Kind::ShortConsumedDegraded,
+        Kind::WaitsUnknown => Kind::ShortWaitsUnknown,
+        Kind::WaitsGuardNonces => Kind::ShortWaitsGuardNonces,
+        Kind::WaitsGuardNone => Kind::ShortWaitsGuardNone,
+        Kind::WaitsDegradedNonces => Kind::ShortWaitsDegradedNonces,
+        Kind::WaitsDegradedNone => Kind::ShortWaitsDegradedNone,
+        Kind::SilentHeld => Kind::ShortSilentHeld,
+        Kind::SilentTentative => Kind::ShortSilentTentative,
+        other => panic!("{other:?} is no poll's"),
+    }
+}
+
+/// The kinds of a poll: every entry of the sender has a row, or a reason to have none.
+fn polled(sender: Address, head: u64, known: &[u64], before: &Model, rows: &[Listed]) -> Vec<Kind> {
     let mut rows = rows.iter();
+    let mut kinds = Vec::new();
     let mut any = false;
     for entry in before.entries.iter().filter(|e| e.frame.from == sender) {
         any = true;
         if entry.state != State::Tracked {
-            seen.see(Kind::SilentTentative);
+            kinds.push(Kind::SilentTentative);
         } else if before.degraded(&entry.frame) && entry.held == Some(head) && head <= entry.frame.claim {
-            seen.see(Kind::SilentHeld);
+            kinds.push(Kind::SilentHeld);
         } else if let Some(row) = rows.next() {
-            seen.see(of_row(row, entry, known, before));
+            kinds.push(of_row(row, entry, known, before));
         }
     }
     if !any {
-        seen.see(Kind::PollNobody);
+        kinds.push(Kind::PollNobody);
     }
+    kinds
 }
 
 /// A guard's row lists predecessors, which are all known; a row for want of nonces lists those that are not.
-fn of_row(row: &Row, entry: &Entry, known: &[u64], before: &Model) -> Kind {
-    let nonces = &row[3..3 + row[2] as usize];
-    match (row[1], before.degraded(&entry.frame), nonces.is_empty()) {
+fn of_row((code, nonces): &Listed, entry: &Entry, known: &[u64], before: &Model) -> Kind {
+    match (code, before.degraded(&entry.frame), nonces.is_empty()) {
         (1, _, true) => Kind::RescueNone,
         (1, _, false) => Kind::RescueNonces,
         (2, false, _) => Kind::Consumed,

@@ -6,6 +6,10 @@ use std::fmt;
 /// Ticket; 1 Rescue, 2 NonceConsumed, 3 StillWaiting; count; up to 16 nonces, then zeros.
 pub type Row = [u64; 19];
 
+/// Ticket; code as in a long row; the frame's expected nonce; a mark of 16 bits, in which bit i, lowest first, is set if nonce
+/// expected + i is listed; how many are set.
+pub type ShortRow = [u64; 5];
+
 #[derive(Clone, Copy, Debug, PartialEq, Eq)]
 pub enum State {
     Tracked,
@@ -46,6 +50,7 @@ pub struct Dump {
 pub enum Answer {
     Total(u64),
     Rows(Vec<Row>),
+    Short(Vec<ShortRow>),
     Done,
     Truth(bool),
     Tickets(Vec<u64>),
@@ -91,6 +96,15 @@ fn numbers(list: &[u64], f: &mut fmt::Formatter<'_>) -> fmt::Result {
     list.iter().try_for_each(|n| write!(f, " {n}"))
 }
 
+/// A word, how many rows there are, and each row behind a bar.
+fn rows<const N: usize>(word: &str, list: &[[u64; N]], f: &mut fmt::Formatter<'_>) -> fmt::Result {
+    write!(f, "{word} {}", list.len())?;
+    list.iter().try_for_each(|row| {
+        f.write_str(" |")?;
+        numbers(row, f)
+    })
+}
+
 fn consumed(c: &Consumed, f: &mut fmt::Formatter<'_>) -> fmt::Result {
     write!(f, "{} {} {} {}", c.block, c.kind, hex(&c.block_hash), hex(&c.taker))
 }
@@ -133,13 +147,8 @@ impl fmt::Display for Answer {
     fn fmt(&self, f: &mut fmt::Formatter<'_>) -> fmt::Result {
         match self {
             Answer::Total(n) => write!(f, "total {n}"),
-            Answer::Rows(rows) => {
-                write!(f, "rows {}", rows.len())?;
-                rows.iter().try_for_each(|row| {
-                    f.write_str(" |")?;
-                    numbers(row, f)
-                })
-            }
+            Answer::Rows(list) => rows("rows", list, f),
+            Answer::Short(list) => rows("short", list, f),
             Answer::Done => f.write_str("done"),
             Answer::Truth(b) => write!(f, "{b}"),
             Answer::Tickets(list) => {

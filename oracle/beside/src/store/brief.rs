@@ -1,5 +1,5 @@
 //! A call in few words, for a reader.
-use super::calls::Call;
+use super::calls::{Call, Form};
 
 /// A call in few words: of a hash or address its first byte and, behind a dot, its last.
 pub fn brief(call: &Call) -> String {
@@ -15,7 +15,11 @@ pub fn brief(call: &Call) -> String {
             f.gas,
             f.ticket
         ),
-        Call::Poll { sender, head, known, content } => {
+        Call::Poll { form, sender, head, known, content } => {
+            let name = match form {
+                Form::Long => "poll",
+                Form::Short => "short poll",
+            };
             let content = match content {
                 None => "no content".to_string(),
                 Some(c) => {
@@ -24,7 +28,7 @@ pub fn brief(call: &Call) -> String {
                 }
             };
             let known = if known.len() > 20 { format!("{} nonces", known.len()) } else { format!("{known:?}") };
-            format!("poll {} head {head} known {known} {content}", short(sender))
+            format!("{name} {} head {head} known {known} {content}", short(sender))
         }
         Call::Guard(g) => {
             let hashes: Vec<String> = g.content.chunks(32).map(short).collect();

@@ -39,10 +39,17 @@ pub struct GuardCall {
     pub content: Vec<u8>,
 }
 
+/// How a poll writes its rows: as 19 numbers, or as five.
+#[derive(Clone, Copy, Debug, PartialEq, Eq)]
+pub enum Form {
+    Long,
+    Short,
+}
+
 #[derive(Clone, Debug, PartialEq, Eq)]
 pub enum Call {
     Push(Frame),
-    Poll { sender: Address, head: u64, known: Vec<u64>, content: Option<Content> },
+    Poll { form: Form, sender: Address, head: u64, known: Vec<u64>, content: Option<Content> },
     Guard(GuardCall),
     Enter { hash: Hash, consumed: Consumed },
     Reorg { block: u64, hash: Option<Hash> },
@@ -60,10 +67,25 @@ pub enum Call {
 }
 
 impl Call {
+    /// A poll with long rows.
+    pub fn poll(sender: Address, head: u64, known: Vec<u64>, content: Option<Content>) -> Call {
+        Call::Poll { form: Form::Long, sender, head, known, content }
+    }
+
+    /// The same poll with short rows.
+    pub fn short(mut self) -> Call {
+        match &mut self {
+            Call::Poll { form, .. } => *form = Form::Short,
+            other => panic!("{} has no rows", other.mark()),
+        }
+        self
+    }
+
     pub fn mark(&self) -> &'static str {
         match self {
             Call::Push(_) => "CP",
-            Call::Poll { .. } => "CQ",
+            Call::Poll { form: Form::Long, .. } => "CQ",
+            Call::Poll { form: Form::Short, .. } => "CM",
             Call::Guard(_) => "CG",
             Call::Enter { .. } => "CE",
             Call::Reorg { .. } => "CR",
@@ -81,7 +103,7 @@ impl Call {
         }
     }
 
-    /// The seven calls that may change the store.
+    /// The calls that may change the store.
     pub fn changes(&self) -> bool {
         matches!(
             self,

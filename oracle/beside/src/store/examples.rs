@@ -25,12 +25,12 @@ fn f() -> Call {
 }
 
 fn poll(head: u64, known: &[u64]) -> Call {
-    Call::Poll { sender: A, head, known: known.to_vec(), content: None }
+    Call::poll(A, head, known.to_vec(), None)
 }
 
 fn poll_with(head: u64, known: &[u64], nonce: u64) -> Call {
     let content = Some(Content { nonces: vec![nonce], hashes: H.to_vec() });
-    Call::Poll { sender: A, head, known: known.to_vec(), content }
+    Call::poll(A, head, known.to_vec(), content)
 }
 
 fn reparked(predecessors: &[u64]) -> Call {

@@ -1,8 +1,9 @@
 //! Random scripts aimed at the corners: few senders and hashes, nonces close together or near 2^64, heads at the claim,
-//! guards that match or nearly match, revivals, hashes pushed twice and by two senders, calls at the limits and past them.
+//! guards that match or nearly match, revivals, hashes pushed twice and by two senders, calls at the limits and past them, polls
+//! in both forms.
 //! The script's maker plays its calls on the model, so that it can aim at what the store holds.
 use super::answers::{Entry, State};
-use super::calls::{Address, Call, Consumed, Content, Frame, GuardCall, Hash, Side};
+use super::calls::{Address, Call, Consumed, Content, Form, Frame, GuardCall, Hash, Side};
 use super::model::Model;
 use super::script::{read_script, write_call, Script};
 use crate::random::Random;
@@ -22,8 +23,24 @@ struct Maker {
     calls: Vec<Call>,
 }
 
-/// The script of a seed.
+/// The script of a seed, in which about one poll of three is short. Which ones is drawn apart, and a poll does the same to the
+/// store in both forms, so the script is otherwise the seed's long one, and as well aimed.
 pub fn script(seed: u64) -> Script {
+    let mut script = long_script(seed);
+    let mut r = Random::new(seed ^ 0x5407);
+    for call in &mut script.calls {
+        if let Call::Poll { form, .. } = call {
+            *form = if r.once_in(3) { Form::Short } else { Form::Long };
+        }
+    }
+    if script.broken.starts_with(b"CQ") && r.once_in(3) {
+        script.broken[1] = b'M';
+    }
+    script
+}
+
+/// The script of a seed, with long polls only.
+pub fn long_script(seed: u64) -> Script {
     let mut m = Maker::new(seed);
     let length = 6 + m.r.index(60);
     if m.r.once_in(30) {
@@ -293,7 +310,7 @@ impl Maker {
             let hashes: Vec<Hash> = nonces.iter().map(|_| *self.r.pick(&self.contents)).collect();
             Some(self.content(&nonces, &hashes))
         };
-        let call = Call::Poll { sender, head, known, content };
+        let call = Call::poll(sender, head, known, content);
         self.make(call.clone());
         if self.r.once_in(3) {
             self.make(call);
@@ -323,7 +340,7 @@ impl Maker {
         }
         let known = if self.r.once_in(5) { self.known(&f) } else { gap(&f) };
         let content = if self.r.once_in(8) { None } else { Some(self.content(&preds, &hashes)) };
-        self.make(Call::Poll { sender: f.from, head, known, content });
+        self.make(Call::poll(f.from, head, known, content));
     }
 
     /// A guard that matches the frame at this head with this content, or nearly.
@@ -417,12 +434,12 @@ impl Maker {
             content: content.clone(),
         }));
         let content = Some(Content { nonces: preds, hashes: content });
-        self.make(Call::Poll { sender: f.from, head, known: gap(f), content });
+        self.make(Call::poll(f.from, head, gap(f), content));
     }
 
     /// A rescue without content drops the guard; the same frame pushed again meets none.
     fn rescue_and_push_again(&mut self, f: &Frame, head: u64) {
-        self.make(Call::Poll { sender: f.from, head, known: gap(f), content: None });
+        self.make(Call::poll(f.from, head, gap(f), None));
         self.make(Call::Push(f.clone()));
     }
 
@@ -439,7 +456,7 @@ impl Maker {
         self.make(Call::Finality { block: consumed.block });
         self.make(Call::Push(f.clone()));
         let content = Some(Content { nonces: vec![self.base], hashes: self.contents[0].to_vec() });
-        self.make(Call::Poll { sender: f.from, head: f.claim, known: Vec::new(), content });
+        self.make(Call::poll(f.from, f.claim, Vec::new(), content));
     }
 
     /// Two enterings of one frame: the second says false and leaves a guard that came between.
@@ -458,7 +475,7 @@ impl Maker {
         self.ticket += 1;
         twin.ticket = self.ticket;
         self.make(Call::Push(twin.clone()));
-        self.make(Call::Poll { sender: twin.from, head: f.claim, known: Vec::new(), content: None });
+        self.make(Call::poll(twin.from, f.claim, Vec::new(), None));
     }
 
     fn guard(&mut self) {
@@ -531,7 +548,7 @@ impl Maker {
         };
         let f = entry.frame;
         let head = f.claim.saturating_sub(self.r.below(3));
-        let poll = |head: u64, known: Vec<u64>| Call::Poll { sender: f.from, head, known, content: None };
+        let poll = |head: u64, known: Vec<u64>| Call::poll(f.from, head, known, None);
         let known = self.known(&f);
         self.make(poll(head, known));
         if self.r.once_in(2) {

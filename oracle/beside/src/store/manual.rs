@@ -30,7 +30,7 @@ fn f_with(chain_id: u64, gas: u64) -> Call {
 }
 
 fn poll_of(sender: Address, head: u64, known: impl IntoIterator<Item = u64>, content: Option<Content>) -> Call {
-    Call::Poll { sender, head, known: known.into_iter().collect(), content }
+    Call::poll(sender, head, known.into_iter().collect(), content)
 }
 
 fn poll(head: u64, known: &[u64]) -> Call {
@@ -276,7 +276,35 @@ fn corner_scripts() -> Vec<Vec<Call>> {
     ]
 }
 
-/// The scripts of docs/ANSWERS.md, by call.
+/// Polls with short rows, and the long rows of some of them.
+fn short_scripts() -> Vec<Vec<Call>> {
+    let short = |head, known: &[u64]| poll(head, known).short();
+    let unfit = Some(Content { nonces: vec![5], hashes: vec![0; 31] });
+    let all_but_last: Vec<u64> = (5..20).collect();
+    vec![
+        // a frame waits, is consumed, and is rescued
+        vec![f(), poll(5, &[5, 7]), short(5, &[5, 7]), poll(9, &[]), short(9, &[]), short(5, &[5, 6, 7]), Call::Len],
+        // a gap of sixteen: all bits, the highest alone, the lowest and the highest
+        vec![push(F, A, 5, 21, 7), short(5, &[]), short(5, &all_but_last), short(5, &all_but_last[1..]), short(21, &[])],
+        // the largest nonces
+        vec![push(F, A, u64::MAX - 2, u64::MAX, 7), short(0, &[])],
+        // degraded: silent, in either form, at the head that it was last held at
+        vec![f_with(0, 0), poll(5, &[5]), short(5, &[5]), short(6, &[]), poll(6, &[])],
+        // a guarded rescue, the same without content, and a sender with no frame
+        vec![f(), guard(F, Some(5), &[7], &H), poll_of(A, 7, [7], pair(7, H)).short(), short(7, &[7]), short(7, &[7])],
+        // 3, 3 before 4, and 4
+        vec![
+            f(),
+            poll_of(A, 5, 0..257, None).short(),
+            poll_of(A, 5, 0..257, unfit.clone()).short(),
+            poll_of(A, 5, [], unfit).short(),
+            Call::Len,
+        ],
+    ]
+}
+
+/// The scripts of docs/ANSWERS.md, by call; those with short polls stand last.
 pub fn answers() -> Vec<Vec<Call>> {
-    [push_scripts(), poll_scripts(), guard_scripts(), block_scripts(), reading_scripts(), corner_scripts()].concat()
+    [push_scripts(), poll_scripts(), guard_scripts(), block_scripts(), reading_scripts(), corner_scripts(), short_scripts()]
+        .concat()
 }

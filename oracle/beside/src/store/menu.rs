@@ -21,7 +21,7 @@ fn poll(sender: Address, head: u64, known: &[u64], content: &[u64]) -> Call {
         [] => None,
         nonces => Some(Content { nonces: nonces.to_vec(), hashes: CONTENT.repeat(nonces.len()) }),
     };
-    Call::Poll { sender, head, known: known.to_vec(), content }
+    Call::poll(sender, head, known.to_vec(), content)
 }
 
 fn guard(boundary: Option<u64>, predecessors: &[u64]) -> Call {
@@ -33,14 +33,15 @@ fn enter(hash: Hash, kind: u8, block: u64) -> Call {
     Call::Enter { hash, consumed: Consumed { kind, block, block_hash: BLOCK, taker } }
 }
 
-/// Two senders, of whom B also pushes A's hash; a degraded frame; guards with and without predecessors.
+/// Two senders, of whom B also pushes A's hash; a degraded frame; a short poll among long ones; guards with and without
+/// predecessors.
 pub fn menu() -> Vec<Call> {
     vec![
         frame(H, A, 8, 1, 1),
         frame(H, A, 7, 1, 2),
         frame(I, A, 8, 0, 3),
         frame(H, B, 8, 1, 4),
-        poll(A, 7, &[7], &[7]),
+        poll(A, 7, &[7], &[7]).short(),
         poll(A, 8, &[], &[9]),
         poll(A, 9, &[], &[]),
         poll(B, 5, &[5, 6, 7], &[]),

@@ -1,9 +1,12 @@
 //! Document 01's store in plain Rust, written from the document: one list of entries in walk order, one list of guards. With an
-//! entry that was found by its hash it answers sender and place, written from request 2027-02. A wrong rule may be planted in it.
+//! entry that was found by its hash it answers sender and place, written from request 2027-02; short rows are written from
+//! request 2027-03. A wrong rule may be planted in it.
 use super::answers::{Answer, Dump, Entry, Guard, Row, State, Whose};
-use super::calls::{Address, Call, Consumed, Content, Frame, GuardCall, Hash, Side};
+use super::calls::{Address, Call, Consumed, Content, Form, Frame, GuardCall, Hash, Side};
 use super::refusals;
 use super::wrong::Wrong;
+
+mod short;
 
 #[derive(Clone, Default)]
 pub struct Model {
@@ -24,16 +27,29 @@ struct OfHash {
 
 /// The inputs of a poll, and the guards as they stood when it began.
 struct Poll<'a> {
+    form: Form,
     head: u64,
     known: &'a [u64],
     content: Option<&'a Content>,
     start: Vec<Guard>,
 }
 
+/// What the rules say of one entry: the code of their decision, and the nonces that it lists.
+struct Said {
+    frame: Frame,
+    code: u64,
+    nonces: Vec<u64>,
+}
+
+fn said(f: &Frame, code: u64, nonces: &[u64]) -> Said {
+    Said { frame: f.clone(), code, nonces: nonces.to_vec() }
+}
+
 /// Ticket, code, count, nonces and zeros.
-fn row(f: &Frame, code: u64, nonces: &[u64]) -> Row {
+fn row(said: &Said) -> Row {
+    let nonces = &said.nonces;
     let mut row = [0; 19];
-    (row[0], row[1], row[2]) = (f.ticket, code, nonces.len() as u64);
+    (row[0], row[1], row[2]) = (said.frame.ticket, said.code, nonces.len() as u64);
     row[3..3 + nonces.len()].copy_from_slice(nonces);
     row
 }
@@ -45,6 +61,11 @@ impl Model {
 
     fn plants(&self, wrong: Wrong) -> bool {
         self.wrong == Some(wrong)
+    }
+
+    /// Whether a wrong rule for short polls is planted, and this is one.
+    fn plants_in(&self, form: Form, wrong: Wrong) -> bool {
+        form == Form::Short && self.plants(wrong)
     }
 
     // ---- a frame
@@ -160,15 +181,16 @@ impl Model {
 
     // ---- poll
 
-    fn poll(&mut self, sender: Address, head: u64, known: &[u64], content: Option<&Content>) -> Answer {
-        if let Some(number) = refusals::of_poll(self.wrong, known, content) {
-            if self.plants(Wrong::RefusedPollHolds) {
+    fn poll(&mut self, form: Form, sender: Address, head: u64, known: &[u64], content: Option<&Content>) -> Answer {
+        if let Some(number) = refusals::of_poll(self.wrong, form, known, content) {
+            if self.plants(Wrong::RefusedPollHolds) || self.plants_in(form, Wrong::ShortRefusedHolds) {
                 let holds = |e: &&mut Entry| e.frame.from == sender && e.state == State::Tracked && head <= e.frame.claim;
                 self.entries.iter_mut().filter(holds).for_each(|e| e.held = Some(head));
             }
             return Answer::Refused(number);
         }
-        let poll = Poll { head, known, content, start: self.guards.clone() };
+        let before = self.plants_in(form, Wrong::ShortStoreStays).then(|| self.clone());
+        let poll = Poll { form, head, known, content, start: self.guards.clone() };
         let mut rows = Vec::new();
         let mut kept = Vec::new();
         for mut entry in std::mem::take(&mut self.entries) {
@@ -177,11 +199,17 @@ impl Model {
             }
         }
         self.entries = kept;
-        Answer::Rows(rows)
+        if let Some(before) = before {
+            *self = before;
+        }
+        match form {
+            Form::Long => Answer::Rows(rows.iter().map(row).collect()),
+            Form::Short => Answer::Short(rows.iter().map(|said| self.short_row(said, &poll)).collect()),
+        }
     }
 
     /// Rules 1 to 7 for one entry of the sender; whether it stays.
-    fn poll_entry(&mut self, entry: &mut Entry, poll: &Poll, rows: &mut Vec<Row>) -> bool {
+    fn poll_entry(&mut self, entry: &mut Entry, poll: &Poll, rows: &mut Vec<Said>) -> bool {
         let f = entry.frame.clone();
         // 1
         if entry.state != State::Tracked && !self.plants(Wrong::TentativeIsPolled) {
@@ -195,7 +223,7 @@ impl Model {
         }
         // 3
         if self.consumed(&f, poll.head) {
-            rows.push(row(&f, 2, &[]));
+            rows.push(said(&f, 2, &[]));
             return !self.plants(Wrong::ConsumedLeaves);
         }
         // 4 is in `gap`, `predecessors` and `unknown`
@@ -204,27 +232,27 @@ impl Model {
         let guarded = guard.is_some_and(|g| self.guard_matches(g, &f, poll.head, poll.content));
         // 5
         if !(unknown.is_empty() || self.plants(Wrong::GuardBeforeUnknown) && guarded) {
-            rows.push(row(&f, 3, &unknown));
+            rows.push(said(&f, 3, &unknown));
             return true;
         }
         // 6
         if guarded {
-            rows.push(row(&f, 3, if self.plants(Wrong::GuardRowEmpty) { &[] } else { &predecessors }));
+            rows.push(said(&f, 3, if self.plants(Wrong::GuardRowEmpty) { &[] } else { &predecessors }));
             return true;
         }
         // 7
-        rows.push(row(&f, 1, &predecessors));
-        if !self.plants(Wrong::GuardStaysAtRescue) {
+        rows.push(said(&f, 1, &predecessors));
+        if !self.plants(Wrong::GuardStaysAtRescue) && !self.plants_in(poll.form, Wrong::ShortGuardStays) {
             self.drop_guard(f.hash);
         }
-        false
+        self.plants_in(poll.form, Wrong::ShortRescueStays)
     }
 
     /// Rule 2.
-    fn poll_degraded(&self, entry: &mut Entry, poll: &Poll, rows: &mut Vec<Row>) -> bool {
+    fn poll_degraded(&self, entry: &mut Entry, poll: &Poll, rows: &mut Vec<Said>) -> bool {
         let (f, head) = (entry.frame.clone(), poll.head);
         if self.consumed(&f, head) {
-            rows.push(row(&f, 2, &[]));
+            rows.push(said(&f, 2, &[]));
             if self.plants(Wrong::HeldWhenConsumed) {
                 entry.held = Some(head);
             }
@@ -236,10 +264,12 @@ impl Model {
             _ => entry.held != Some(head),
         };
         if reported {
-            entry.held = Some(head);
+            if !self.plants_in(poll.form, Wrong::ShortHeldStays) {
+                entry.held = Some(head);
+            }
             rows.push(match self.wrong {
-                Some(Wrong::HeldListsPredecessors) => row(&f, 3, &self.predecessors(&f, head)),
-                _ => row(&f, 3, &self.unknown(&f, head, poll.known)),
+                Some(Wrong::HeldListsPredecessors) => said(&f, 3, &self.predecessors(&f, head)),
+                _ => said(&f, 3, &self.unknown(&f, head, poll.known)),
             });
         }
         true
@@ -454,7 +484,7 @@ impl Side for Model {
     fn answer(&mut self, call: &Call) -> Answer {
         match call {
             Call::Push(f) => self.push(f),
-            Call::Poll { sender, head, known, content } => self.poll(*sender, *head, known, content.as_ref()),
+            Call::Poll { form, sender, head, known, content } => self.poll(*form, *sender, *head, known, content.as_ref()),
             Call::Guard(g) => self.guard(g),
             Call::Enter { hash, consumed } => self.enter(*hash, *consumed),
             Call::Reorg { block, hash } => self.reorg(*block, *hash),

@@ -105,7 +105,10 @@ pub enum Outcome {
     NoRoom,
     /// The other order is the same one.
     SameOrder,
-    Equal,
+    /// The answers are the same, with short rows among them or without.
+    Equal {
+        short_rows: bool,
+    },
     Different(String),
 }
 
@@ -122,7 +125,8 @@ fn try_on<S: Side>(side: impl Fn() -> S, seed: u64) -> Outcome {
     } else if given == other {
         Outcome::SameOrder
     } else {
-        Outcome::Equal
+        let is_short = |answer: &Answer| matches!(answer, Answer::Short(rows) if !rows.is_empty());
+        Outcome::Equal { short_rows: a.0.iter().flatten().any(is_short) }
     }
 }
 

@@ -1,6 +1,6 @@
 //! The published store, unchanged, behind document 01's refusals, which it does not have.
-use super::answers::{Answer, Row, State};
-use super::calls::{Call, Consumed, Content, Frame, GuardCall, Hash, Side};
+use super::answers::{Answer, Row, ShortRow, State};
+use super::calls::{Call, Consumed, Content, Form, Frame, GuardCall, Hash, Side};
 use super::dump::dump;
 use alloy::primitives::{Address, Bytes, B256, U256};
 use published::gap_quarantine::{FrameState, NonceConsumed, ParkedFrame, Quarantine, QuarantineDecision};
@@ -52,18 +52,37 @@ fn consumed(c: NonceConsumed) -> Consumed {
     Consumed { kind, block: c.block(), block_hash: c.block_hash().0, taker }
 }
 
-fn row(frame: &ParkedFrame, decision: &QuarantineDecision) -> Row {
-    let (code, nonces): (u64, &[u64]) = match decision {
+/// A decision's code, and the nonces that it lists.
+fn listed(decision: &QuarantineDecision) -> (u64, &[u64]) {
+    match decision {
         QuarantineDecision::Rescue { predecessors } => (1, predecessors),
         QuarantineDecision::NonceConsumed => (2, &[]),
         QuarantineDecision::StillWaiting { unknown } => (3, unknown),
-    };
+    }
+}
+
+fn row(frame: &ParkedFrame, decision: &QuarantineDecision) -> Row {
+    let (code, nonces) = listed(decision);
     let mut row = [0; 19];
     row[0] = frame.received_unix_ms;
     row[1] = code;
     row[2] = nonces.len() as u64;
     row[3..3 + nonces.len()].copy_from_slice(nonces);
     row
+}
+
+/// The Rust has no short rows: this is one made of its long one. The expected nonce is that of the frame which the Rust answers
+/// with its decision; each nonce of the decision sets its bit, and the count is how many nonces there are.
+fn short_row(frame: &ParkedFrame, decision: &QuarantineDecision) -> ShortRow {
+    let (code, nonces) = listed(decision);
+    let expected = frame.expected_at_capture;
+    let mut mark = 0;
+    for nonce in nonces {
+        let place = nonce - expected;
+        assert!(place < 16, "what the Rust lists lies in the gap");
+        mark |= 1 << place;
+    }
+    [frame.received_unix_ms, code, expected, mark, nonces.len() as u64]
 }
 
 fn hashes(bytes: &[u8]) -> Vec<B256> {
@@ -89,7 +108,7 @@ impl Original {
         Answer::Total(self.quarantine.push(parked(f)) as u64)
     }
 
-    fn poll(&mut self, sender: Address, head: u64, known: &[u64], content: Option<&Content>) -> Answer {
+    fn poll(&mut self, form: Form, sender: Address, head: u64, known: &[u64], content: Option<&Content>) -> Answer {
         if known.len() > 256 {
             return Answer::Refused(3);
         }
@@ -101,7 +120,10 @@ impl Original {
                 self.quarantine.poll_with_content(sender, head, known, &pairs)
             }
         };
-        Answer::Rows(rows.iter().map(|(frame, decision)| row(frame, decision)).collect())
+        match form {
+            Form::Long => Answer::Rows(rows.iter().map(|(frame, decision)| row(frame, decision)).collect()),
+            Form::Short => Answer::Short(rows.iter().map(|(frame, decision)| short_row(frame, decision)).collect()),
+        }
     }
 
     /// 64 guards are held, and none of this hash.
@@ -146,7 +168,9 @@ impl Side for Original {
     fn answer(&mut self, call: &Call) -> Answer {
         match call {
             Call::Push(f) => self.push(f),
-            Call::Poll { sender, head, known, content } => self.poll(Address(*sender), *head, known, content.as_ref()),
+            Call::Poll { form, sender, head, known, content } => {
+                self.poll(*form, Address(*sender), *head, known, content.as_ref())
+            }
             Call::Guard(g) => self.guard(g),
             Call::Enter { hash, consumed } => {
                 Answer::Truth(self.quarantine.enter_tentative(B256(*hash), nonce_consumed(consumed)))

@@ -1,6 +1,6 @@
 //! Document 01's table of refusals for the store, in its order, and what wrong rules make of it.
 use super::answers::{Entry, Guard, State};
-use super::calls::{Content, Frame, GuardCall};
+use super::calls::{Content, Form, Frame, GuardCall};
 use super::wrong::Wrong;
 
 /// Whether a number is over its limit, or over what a wrong rule makes of it: one more, or one less.
@@ -40,7 +40,23 @@ pub fn of_push(wrong: Option<Wrong>, f: &Frame, entries: &[Entry]) -> Option<u8>
     first(wrong, &mut [(1, wide), (2, full)])
 }
 
-pub fn of_poll(wrong: Option<Wrong>, known: &[u64], content: Option<&Content>) -> Option<u8> {
+/// In a short poll, a wrong rule for its limits alone is the one for the limits of both.
+fn in_form(wrong: Option<Wrong>, form: Form) -> Option<Wrong> {
+    match (wrong, form) {
+        (Some(Wrong::ShortKnownOneMore), Form::Short) => Some(Wrong::KnownOneMore),
+        (Some(Wrong::ShortKnownOneLess), Form::Short) => Some(Wrong::KnownOneLess),
+        (Some(Wrong::ShortPairsOneMore), Form::Short) => Some(Wrong::PairsOneMore),
+        (Some(Wrong::ShortPairsOneLess), Form::Short) => Some(Wrong::PairsOneLess),
+        (Some(Wrong::ShortHashBytesIgnored), Form::Short) => Some(Wrong::HashBytesIgnored),
+        (Some(Wrong::ShortFourBeforeThree), Form::Short) => Some(Wrong::FourBeforeThree),
+        (wrong, _) => wrong,
+    }
+}
+
+pub fn of_poll(wrong: Option<Wrong>, form: Form, known: &[u64], content: Option<&Content>) -> Option<u8> {
+    let never = |never: Wrong| form == Form::Short && wrong == Some(never);
+    let (never_3, never_4) = (never(Wrong::ShortNever3), never(Wrong::ShortNever4));
+    let wrong = in_form(wrong, form);
     let many = over(wrong, known.len() as u64, 256, Wrong::KnownOneMore, Wrong::KnownOneLess);
     let unfit = content.is_some_and(|c| {
         let (bytes, due) = (c.hashes.len(), 32 * c.nonces.len());
@@ -53,7 +69,7 @@ pub fn of_poll(wrong: Option<Wrong>, known: &[u64], content: Option<&Content>) -
         };
         unequal || over(wrong, c.nonces.len() as u64, 64, Wrong::PairsOneMore, Wrong::PairsOneLess)
     });
-    first(wrong, &mut [(3, many), (4, unfit)])
+    first(wrong, &mut [(3, many && !never_3), (4, unfit && !never_4)])
 }
 
 pub fn of_guard(wrong: Option<Wrong>, g: &GuardCall, guards: &[Guard]) -> Option<u8> {

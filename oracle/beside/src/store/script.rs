@@ -1,6 +1,6 @@
 //! Scripts as bytes: calls one after another, and perhaps a broken call at the end.
 use super::answers::Answer;
-use super::calls::{Address, Call, Consumed, Content, Frame, GuardCall, Hash, Side};
+use super::calls::{Address, Call, Consumed, Content, Form, Frame, GuardCall, Hash, Side};
 use std::fmt::Write;
 
 /// The longest script and the longest standard input that `replay` takes.
@@ -77,7 +77,7 @@ pub fn write_call(call: &Call, out: &mut Vec<u8>) {
                 put_number(n, out);
             }
         }
-        Call::Poll { sender, head, known, content } => {
+        Call::Poll { form: _, sender, head, known, content } => {
             out.extend_from_slice(sender);
             put_number(*head, out);
             put_numbers(known, out);
@@ -179,6 +179,19 @@ impl<'a> Reader<'a> {
         }
     }
 
+    fn poll(&mut self, form: Form) -> Option<Call> {
+        Some(Call::Poll {
+            form,
+            sender: self.address()?,
+            head: self.number()?,
+            known: self.numbers()?,
+            content: match self.optional()? {
+                false => None,
+                true => Some(Content { nonces: self.numbers()?, hashes: self.bytes()? }),
+            },
+        })
+    }
+
     fn call(&mut self) -> Option<Call> {
         Some(match self.take(2)? {
             b"CP" => Call::Push(Frame {
@@ -190,15 +203,8 @@ impl<'a> Reader<'a> {
                 gas: self.number()?,
                 ticket: self.number()?,
             }),
-            b"CQ" => Call::Poll {
-                sender: self.address()?,
-                head: self.number()?,
-                known: self.numbers()?,
-                content: match self.optional()? {
-                    false => None,
-                    true => Some(Content { nonces: self.numbers()?, hashes: self.bytes()? }),
-                },
-            },
+            b"CQ" => self.poll(Form::Long)?,
+            b"CM" => self.poll(Form::Short)?,
             b"CG" => {
                 let kind = self.byte()?;
                 let hash = self.hash()?;

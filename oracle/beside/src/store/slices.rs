@@ -1,8 +1,8 @@
 //! What the program `short_slices` is to print: each call that lists, lent slices that are too short, just long enough or
 //! longer, and `is_empty`. The lists are the Rust's on the same stores; a call is refused 5 exactly where a slice is shorter
-//! than document 01's table says.
+//! than document 01's table says, or, for a short poll, request 2027-03.
 use super::answers::Answer;
-use super::calls::{Address, Call, Consumed, Content, Frame, Hash, Side};
+use super::calls::{Address, Call, Consumed, Content, Form, Frame, Hash, Side};
 use super::original::Original;
 use crate::seen::{Kind, Seen};
 use std::fmt::Write;
@@ -13,6 +13,8 @@ use std::process::Command;
 enum Lists {
     Poll,
     PollWithContent,
+    PollShort,
+    PollShortWithContent,
     Evict,
     Reorg,
     Finality,
@@ -27,6 +29,10 @@ const LINES: &[(Lists, &[usize])] = &[
     (Lists::Poll, &[38]),
     (Lists::PollWithContent, &[37]),
     (Lists::PollWithContent, &[38]),
+    (Lists::PollShort, &[9]),
+    (Lists::PollShort, &[10]),
+    (Lists::PollShortWithContent, &[9]),
+    (Lists::PollShortWithContent, &[10]),
     (Lists::Evict, &[1]),
     (Lists::Evict, &[2]),
     (Lists::Reorg, &[1]),
@@ -44,6 +50,8 @@ const LINES: &[(Lists, &[usize])] = &[
     // three elements longer than the list
     (Lists::Poll, &[41]),
     (Lists::PollWithContent, &[41]),
+    (Lists::PollShort, &[13]),
+    (Lists::PollShortWithContent, &[13]),
     (Lists::Evict, &[5]),
     (Lists::Reorg, &[5]),
     (Lists::Finality, &[9, 131]),
@@ -87,12 +95,14 @@ fn made(calls: &[Call]) -> Original {
 impl Lists {
     /// The call's name, what makes its store, and the call.
     fn parts(self) -> (&'static str, Vec<Call>, Call) {
-        let poll = |content| Call::Poll { sender: SENDER, head: 8, known: Vec::new(), content };
+        let poll = |content| Call::poll(SENDER, 8, Vec::new(), content);
         let pair = Content { nonces: vec![7], hashes: vec![9; 32] };
         let gap = Call::KnownGap { sender: SENDER, head: 5, pending_count: 8 };
         match self {
             Lists::Poll => ("poll", tracked(), poll(None)),
             Lists::PollWithContent => ("poll_with_content", tracked(), poll(Some(pair))),
+            Lists::PollShort => ("poll_short", tracked(), poll(None).short()),
+            Lists::PollShortWithContent => ("poll_short_with_content", tracked(), poll(Some(pair)).short()),
             Lists::Evict => ("evict_sender", tracked(), Call::Evict { sender: SENDER }),
             Lists::Reorg => ("check_reorg", tentative(100, 100), Call::Reorg { block: 100, hash: None }),
             Lists::Finality => ("check_finalized", tentative(100, 100), Call::Finality { block: 100 }),
@@ -113,6 +123,7 @@ fn wide(bytes: &[u8]) -> Vec<u64> {
 fn laid(answer: &Answer) -> (&'static str, usize, Vec<Vec<u64>>) {
     match answer {
         Answer::Rows(rows) => ("rows", rows.len(), vec![rows.concat()]),
+        Answer::Short(rows) => ("short", rows.len(), vec![rows.concat()]),
         Answer::Tickets(list) => ("tickets", list.len(), vec![list.clone()]),
         Answer::Numbers(list) => ("numbers", list.len(), vec![list.clone()]),
         Answer::Senders(list) => ("senders", list.len(), vec![wide(&list.concat())]),
@@ -129,11 +140,16 @@ fn laid(answer: &Answer) -> (&'static str, usize, Vec<Vec<u64>>) {
     }
 }
 
-/// How long document 01's table wants the slices: a poll's 19 for each entry of the sender, the others as long as their lists.
+/// How long document 01's table wants the slices: a poll's 19 for each entry of the sender, the others as long as their lists. Of
+/// a short poll request 2027-03 wants five for each entry.
 fn due(call: &Call, lists: &[Vec<u64>], before: &mut Original) -> Vec<usize> {
     match (call, before.answer(&Call::Dump)) {
-        (Call::Poll { sender, .. }, Answer::Dump(dump)) => {
-            vec![19 * dump.entries.iter().filter(|e| e.frame.from == *sender).count()]
+        (Call::Poll { form, sender, .. }, Answer::Dump(dump)) => {
+            let width = match form {
+                Form::Long => 19,
+                Form::Short => 5,
+            };
+            vec![width * dump.entries.iter().filter(|e| e.frame.from == *sender).count()]
         }
         _ => lists.iter().map(Vec::len).collect(),
     }
@@ -174,7 +190,8 @@ fn line(lists: Lists, lent: &[usize], seen: &mut Seen) -> String {
         after = made(&calls);
     }
     seen.see(match refused {
-        true => Kind::Short5,
+        true if matches!(call, Call::Poll { form: Form::Short, .. }) => Kind::ShortPoll5,
+        true => Kind::List5,
         false if lent == due => Kind::ListExact,
         false => Kind::ListPast,
     });

@@ -36,10 +36,12 @@ pub fn show(calls: &[Call], wrong: Option<Wrong>) {
     }
 }
 
-/// A smallest list of calls, from the random scripts of these seeds, that tells a wrong rule by its answers.
+/// A smallest list of calls, from the random scripts of these seeds, that tells a wrong rule by its answers. Only a rule for short
+/// polls is looked for in scripts that have them.
 pub fn smallest_for(wrong: Wrong, seed: u64, scripts: u64) -> Option<Vec<Call>> {
+    let script = if wrong.is_about_short() { generate::script } else { generate::long_script };
     (seed..seed + scripts).find_map(|next| {
-        let mut calls = generate::script(next).calls;
+        let mut calls = script(next).calls;
         calls.retain(|call| *call != Call::Dump);
         let place = tells(&calls, Some(wrong))?;
         Some(shrink(&calls[..=place], |calls| tells(calls, Some(wrong)).is_some()))

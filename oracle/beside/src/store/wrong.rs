@@ -1,5 +1,6 @@
-//! Wrong rules for the store, each planted alone into the model; the generated scripts must tell each from the Rust, and those
-//! for sender and place, which the Rust does not tell, from the model without a wrong rule.
+//! Wrong rules for the store, each planted alone into the model; the generated scripts must tell each from the Rust, those for
+//! short rows from what is made of its long ones, and those for sender and place, which the Rust does not tell, from the model
+//! without a wrong rule.
 
 sayings! { Wrong {
     ConsumedAtClaim: "a head equal to the claim consumes the nonce",
@@ -85,6 +86,36 @@ sayings! { Wrong {
     RefusedPushHeld: "a push that is refused for its gap is held",
     RefusedPollHolds: "a refused poll sets the held heads",
     RefusedGuardDrops: "a refused guard drops the guard of its hash",
+    // from here on, rules for short polls
+    ShortBitFromOne: "short: bit 0 stands for expected + 1",
+    ShortBitsHighestFirst: "short: bit 15 - i stands for expected + i",
+    ShortBitsFromHead: "short: bit 0 stands for the head where it is above expected",
+    ShortBitsByPlace: "short: bit i stands for the i-th nonce listed",
+    ShortFifteenBits: "short: the mark has 15 bits",
+    ShortMarksConsumed: "short: NonceConsumed marks the gap",
+    ShortMarksKnown: "short: StillWaiting marks the known predecessors",
+    ShortMarksPredecessors: "short: StillWaiting marks all predecessors",
+    ShortCountSixteen: "short: the count is 16, whatever is set",
+    ShortCountOfGap: "short: the count is that of the gap",
+    ShortCountToHighest: "short: the count is of all bits up to the highest that is set",
+    ShortClaim: "short: the claim stands in place of the expected nonce",
+    ShortHead: "short: the head stands in place of the expected nonce",
+    ShortFirstListed: "short: the first nonce listed stands in place of the expected one",
+    ShortLowHalf: "short: the expected nonce is cut to 32 bits",
+    ShortConsumedZero: "short: NonceConsumed has 0 in place of the expected nonce",
+    ShortStoreStays: "a short poll leaves the store as it was",
+    ShortRescueStays: "a frame that a short poll rescues stays",
+    ShortGuardStays: "a rescue by a short poll keeps the guard",
+    ShortHeldStays: "a short poll sets no held head",
+    ShortNever3: "3: a short poll takes any number of known nonces",
+    ShortNever4: "4: a short poll takes any content",
+    ShortKnownOneMore: "3: a short poll takes 257 known nonces",
+    ShortKnownOneLess: "3: 256 known nonces are refused to a short poll",
+    ShortPairsOneMore: "4: a short poll takes 65 pairs",
+    ShortPairsOneLess: "4: 64 pairs are refused to a short poll",
+    ShortHashBytesIgnored: "4: the hash bytes are not counted in a short poll",
+    ShortFourBeforeThree: "4 comes before 3 in a short poll",
+    ShortRefusedHolds: "a refused short poll sets the held heads",
     // from here on, rules for sender and place
     PlaceOfAll: "the place counts the entries of all senders",
     PlaceOfTracked: "the place counts tracked entries only",
@@ -101,6 +132,11 @@ sayings! { Wrong {
 }}
 
 impl Wrong {
+    /// Whether the rule is for short polls alone.
+    pub fn is_about_short(self) -> bool {
+        (Wrong::ShortBitFromOne..Wrong::PlaceOfAll).contains(&self)
+    }
+
     /// Whether the rule is for sender and place: these stand last.
     pub fn is_about_whose(self) -> bool {
         self >= Wrong::PlaceOfAll

@@ -37,9 +37,9 @@ impl Maker {
         let bytes = 32 * pairs as i64 + *self.r.pick(&[0, 0, 0, -32, -1, 1, 32]);
         let content = Content { nonces: vec![f.expected; pairs], hashes: vec![5; bytes as usize] };
         let content = if self.r.once_in(5) { None } else { Some(content) };
-        self.make(Call::Poll { sender: f.from, head, known, content });
+        self.make(Call::poll(f.from, head, known, content));
         if self.r.once_in(2) {
-            self.make(Call::Poll { sender: f.from, head, known: Vec::new(), content: None });
+            self.make(Call::poll(f.from, head, Vec::new(), None));
         }
     }
 
