@@ -7,6 +7,7 @@
 
 uint64_t store_bench_push(uint64_t rounds);
 uint64_t store_bench_waiting(uint64_t frames, uint64_t rounds);
+uint64_t store_bench_waiting_short(uint64_t frames, uint64_t rounds);
 uint64_t store_bench_guarded(uint64_t frames, uint64_t rounds);
 uint64_t store_bench_rescued(uint64_t frames, uint64_t rounds);
 uint64_t store_bench_enter(uint64_t frames, uint64_t rounds);
@@ -18,12 +19,13 @@ uint64_t gap_quarantine_guarded_polls(uint64_t rounds);
 uint64_t gap_quarantine_push_and_rescue(uint64_t rounds);
 uint64_t gap_quarantine_finality(uint64_t rounds);
 
-enum what { PUSH, WAITING, GUARDED, RESCUED, ENTER, EVICT, FINALITY, POLLS, WHOLE_POLLS, GUARDED_POLLS, PUSH_RESCUE, PUSH_ENTER_FINALITY };
+enum what { PUSH, WAITING, WAITING_SHORT, GUARDED, RESCUED, ENTER, EVICT, FINALITY, POLLS, WHOLE_POLLS, GUARDED_POLLS, PUSH_RESCUE, PUSH_ENTER_FINALITY };
 
 static uint64_t run(enum what what, uint64_t frames, uint64_t rounds) {
     switch (what) {
     case PUSH: return store_bench_push(rounds);
     case WAITING: return store_bench_waiting(frames, rounds);
+    case WAITING_SHORT: return store_bench_waiting_short(frames, rounds);
     case GUARDED: return store_bench_guarded(frames, rounds);
     case RESCUED: return store_bench_rescued(frames, rounds);
     case ENTER: return store_bench_enter(frames, rounds);
@@ -130,6 +132,9 @@ int main(void) {
     tell("  poll, 1 frame waits", WAITING, 1);
     tell("  poll, 8 frames wait", WAITING, 8);
     tell("  poll, 64 frames wait", WAITING, 64);
+    tell("  poll with short rows, 1 frame waits", WAITING_SHORT, 1);
+    tell("  poll with short rows, 8 frames wait", WAITING_SHORT, 8);
+    tell("  poll with short rows, 64 frames wait", WAITING_SHORT, 64);
     tell("  poll with content, 1 frame held by its guard", GUARDED, 1);
     tell("  poll with content, 8 frames held by guards", GUARDED, 8);
     tell("  poll with content, 64 frames held by guards", GUARDED, 64);

@@ -14,8 +14,8 @@ use Rattle.store_rules.specs.Rules as rules
 use Rattle.store_rules.specs.Lookup as lookups
 use Rattle.store_rules.specs.Store as stores
 use Rattle.store_rules.specs.Answers as answers
-use Rattle.store_rules.specs.Store.{empty, push, checkFinalized}
-use Rattle.store_bench.specs.Loads.{frame, waiting, rescuing, guarded, mining, evicting, after, sizeOf, sized, pushed, guardedBy, told, Goes}
+use Rattle.store_rules.specs.Store.{empty, push, short, checkFinalized}
+use Rattle.store_bench.specs.Loads.{frame, waiting, rescuing, guarded, mining, evicting, after, sizeOf, sized, pushed, guardedBy, toldIn, told, Goes}
 
 -- the rounds whose store goes to the next, and calls on a store of 8 frames that is kept
 pub record Computed : Type 0 where
@@ -44,15 +44,16 @@ computed =
 pub record Polled (n : ℕ) : Type 0 where
   pub few : n ≤ 64
   pub waits : told (pushed n) waiting 1216 0 ≡ n
+  pub waits-short : toldIn short (pushed n) waiting 320 0 ≡ n
   pub held-back : told (guardedBy n) guarded 1216 0 ≡ n
   pub rescued : told (pushed n) rescuing 1216 0 ≡ n
   pub enters : told (pushed n) mining 0 0 ≡ 1
 
 by-size : (a b : Bool) → Polled (sizeOf a b)
 unfolding bytes.eqBytes bytes.leBytes lists.keep lists.isEmpty lists.isIn frames.degraded polls.numbersFrom polls.gap polls.predecessors polls.unknown polls.firstIs polls.contentsHold polls.contentMatches polls.boundaryHolds polls.guardMatches polls.stay polls.leave polls.row polls.pollFull polls.pollIn polls.pollGiven polls.pollRule rules.onlyOf rules.evictRule rules.finalIn rules.finalRule stores.empty stores.guardOf stores.dropGuard stores.putGuard stores.after stores.walk stores.walked stores.fresh stores.insert frames.isTracked search.firstAt lookups.entriesOf lookups.enters lookups.foundBehind lookups.firstOf lookups.lookup lookups.isFound lookups.enterWith lookups.enterHead lookups.enterFirst stores.effect stores.when orElse stores.wideGap stores.badContent stores.badContents stores.noRoomFor stores.inputRefusal stores.listed stores.roomRefusal stores.rowWidth stores.refusal stores.unless stores.step answers.said pushed guardedBy
-by-size true b = record { few = omega arith; waits = refl; held-back = refl; rescued = refl; enters = refl }
-by-size false true = record { few = omega arith; waits = refl; held-back = refl; rescued = refl; enters = refl }
-by-size false false = record { few = omega arith; waits = refl; held-back = refl; rescued = refl; enters = refl }
+by-size true b = record { few = omega arith; waits = refl; waits-short = refl; held-back = refl; rescued = refl; enters = refl }
+by-size false true = record { few = omega arith; waits = refl; waits-short = refl; held-back = refl; rescued = refl; enters = refl }
+by-size false false = record { few = omega arith; waits = refl; waits-short = refl; held-back = refl; rescued = refl; enters = refl }
 
 pub at-size : (n : ℕ) → Polled (sized n)
 at-size n = by-size (ltb n 8) (ltb n 64)

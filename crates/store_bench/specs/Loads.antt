@@ -8,7 +8,7 @@ use lib.Dec.{ltb}
 use lib.ListN.{set, replicate}
 use Rattle.lists.specs.Bytes.{Bytes}
 use Rattle.store_rules.specs.Frames.{Frame, mined, Guard, reparked}
-use Rattle.store_rules.specs.Store.{Store, empty, Call, long, push, poll, guard, enterTentative, evictSender, step}
+use Rattle.store_rules.specs.Store.{Store, empty, Call, RowForm, long, push, poll, guard, enterTentative, evictSender, step}
 use Rattle.store_rules.specs.View.{Bodies, bodiesOf, heldView}
 use Rattle.store_rules.specs.declared.Held.{Held}
 use Rattle.store_rules.specs.Answers.{Said, saysTotal, saysRows, saysRecorded, saysEntered, saysFrames, saysDead, saysRefused, said}
@@ -93,16 +93,20 @@ guardedBy (suc n) = after (after (guardedBy n) (push (frame n))) (guard (guardAt
 -- the total, how many are listed, 1 for true; 0 for a guard or a refusal
 abbrev pub counted : Said → ℕ
 counted (saysTotal n) = n
-counted (saysRows n) = n
+counted (saysRows form n) = n
 counted saysRecorded = 0
 counted (saysEntered b sender place) = cond b 1 0
 counted (saysFrames n) = n
 counted (saysDead n) = n
 counted (saysRefused n) = 0
 
--- how many a call with so much room for numbers and bytes tells of
+-- how many a call with rows in this form, and with so much room for numbers and bytes, tells of
+abbrev pub toldIn : RowForm → Store → Call → ℕ → ℕ → ℕ
+toldIn form s call numbers bytes = counted (said form (step s (record { call = call; form = form; numbers = numbers; bytes = bytes }) .1))
+
+-- with long rows
 abbrev pub told : Store → Call → ℕ → ℕ → ℕ
-told s call numbers bytes = counted (said (step s (record { call = call; form = long; numbers = numbers; bytes = bytes }) .1))
+told = toldIn long
 
 -- such a call leads to this store, and tells of so many
 pub record Goes (s : Store) (call : Call) (numbers bytes : ℕ) (t : Store) (n : ℕ) : Type 0 where

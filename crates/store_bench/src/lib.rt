@@ -166,6 +166,14 @@ pub extern "C" fn store_bench_waiting(frames: u64, rounds: u64) -> u64
     repeated(Once::Wait, store_of(sized(frames)), rounds)
 }
 
+// The same with short rows.
+#[no_mangle]
+pub extern "C" fn store_bench_waiting_short(frames: u64, rounds: u64) -> u64
+    ensures { λ r. ⌜ r ≡ sized frames * min rounds 4294967296 ⌝ }
+{
+    repeated(Once::WaitShort, store_of(sized(frames)), rounds)
+}
+
 // Polls with content of a sender with 1, 8 or 64 frames, each held back by its guard.
 #[no_mangle]
 pub extern "C" fn store_bench_guarded(frames: u64, rounds: u64) -> u64

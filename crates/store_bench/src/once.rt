@@ -1,9 +1,9 @@
 // One call on a store that is kept, so that each round finds the same store.
 ghost use mathlib.Core.Path.{_≡_};
 ghost use Prim.Native.Nat.{_*_, _≤_, min};
-ghost use Rattle.store_rules.specs.Store.{push, checkFinalized};
+ghost use Rattle.store_rules.specs.Store.{push, short, checkFinalized};
 ghost use Rattle.store_rules.specs.View.{bodiesOf, heldView};
-ghost use Rattle.store_bench.specs.Loads.{frame, waiting, guarded, rescuing, mining, evicting, alone, told};
+ghost use Rattle.store_bench.specs.Loads.{frame, waiting, guarded, rescuing, mining, evicting, alone, toldIn, told};
 ghost use Rattle.store_bench.specs.Once.{toldOnce};
 use super::stores::capped;
 use super::stores::counted;
@@ -17,6 +17,7 @@ use gap_quarantine::NonceConsumed;
 pub(crate) enum Once {
     Push,
     Wait,
+    WaitShort,
     Rescue,
     Enter,
     Evict,
@@ -37,6 +38,16 @@ fn wait_once(h: Held) -> u64
     let known = [6u64; 1];
     let mut rows = [0u64; 1216];
     let r = gap_quarantine::poll(h, [1u8; 20], 5, &known, &mut rows);
+    let answer = r.answer;
+    counted(answer)
+}
+
+fn wait_short_once(h: Held) -> u64
+    ensures { λ r. ⌜ r ≡ toldIn short (alone h) waiting 320 0 ⌝ }
+{
+    let known = [6u64; 1];
+    let mut rows = [0u64; 320];
+    let r = gap_quarantine::poll_short(h, [1u8; 20], 5, &known, &mut rows);
     let answer = r.answer;
     counted(answer)
 }
@@ -94,6 +105,7 @@ fn run_once(what: Once, h: Held) -> u64
     match what {
         Once::Push => push_once(h),
         Once::Wait => wait_once(h),
+        Once::WaitShort => wait_short_once(h),
         Once::Rescue => rescue_once(h),
         Once::Enter => enter_once(h),
         Once::Evict => evict_once(h),

@@ -39,6 +39,7 @@ pub(crate) fn counted(a: Answer) -> u64
     match a {
         Answer::Total(n) => n as u64,
         Answer::Rows(n) => n as u64,
+        Answer::ShortRows(n) => n as u64,
         Answer::Recorded => 0,
         Answer::Frames(n) => n as u64,
         Answer::Dead(n) => n as u64,
