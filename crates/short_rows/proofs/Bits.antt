@@ -35,6 +35,16 @@ module _ (k n : ℕ) (l : List ℕ) where
   unfolding bitsFrom
   bits-lowest = front-bit (isIn n l) (bitsFrom k (suc n) l)
 
+-- no bit is set above them
+bits-lt : (k n : ℕ) (l : List ℕ) → bitsFrom k n l < 2 ^ k
+unfolding bitsFrom bit
+bits-lt zero n l = zero-lt-suc 0
+bits-lt (suc k) n l = rw (pow-suc 2 k) (go (isIn n l) (bits-lt k (suc n) l))
+  where
+    go : (b : Bool) → bitsFrom k (suc n) l < 2 ^ k → bit b + 2 * bitsFrom k (suc n) l < 2 ^ k * 2
+    go true h = omega arith
+    go false h = omega arith
+
 -- bit i is set if and only if nonce n + i is listed
 bit-at : (k n : ℕ) (l : List ℕ) (i : ℕ) → i < k → bitsFrom k n l / 2 ^ i % 2 ≡ bit (isIn (n + i) l)
 bit-at zero n l i h = absurd (omega arith)
@@ -42,6 +52,12 @@ bit-at (suc k) n l zero h = let e : n + 0 ≡ n = omega arith in rw (e, div-one 
 bit-at (suc k) n l (suc i) h =
     let e : n + suc i ≡ suc n + i = omega arith in
     rw (pow-suc 2 i, mul-comm (2 ^ i) 2, ← div-div-eq-div-mul (bitsFrom (suc k) n l) 2 (2 ^ i), bits-half k n l, e) (bit-at k (suc n) l i (omega arith))
+
+-- ---- the mark
+
+pub mark-lt : (expected : ℕ) (l : List ℕ) → markOf expected l < 2 ^ 16
+unfolding markOf
+mark-lt expected l = bits-lt 16 expected l
 
 pub mark-at : (expected : ℕ) (l : List ℕ) (i : ℕ) → i < 16 → markOf expected l / 2 ^ i % 2 ≡ bit (isIn (expected + i) l)
 unfolding markOf

@@ -1,31 +1,33 @@
--- Every short row says what it should (`every-short-row`), and short rows tell what long ones do (`short-as-long`).
-use Prim.Native.Nat.{ℕ, zero, suc, _+_, _-_, _^_, _≤_, _<_, min}
+-- Every short row says what it should (`every-short-row`), short rows tell what long ones do (`short-as-long`), and take less room
+-- (`short-needs-less`).
+use Prim.Native.Nat.{ℕ, zero, suc, _+_, _*_, _-_, _^_, _≤_, _<_, min}
 use native.Mathlib.Omega.{arith}
 use mathlib.Core.Path.{_≡_, refl, sym, ap, _∙_}
 use mathlib.Core.Bool.{Bool, true, false, cond}
 use mathlib.Core.List.{List, [], _∷_, map}
-use mathlib.Core.Option.{Option, none, some}
-use lib.Dec.{leb}
+use mathlib.Core.Option.{Option, none, some, orElse, Option·none-ne-some}
+use lib.Dec.{leb, ltb}
 use lib.ListN.{length, replicate, drop}
 use lib.Seq.{take-at, drop-at}
-use borrow.Author.Tests.{lt-ltb, ltb-true}
+use borrow.Author.Tests.{lt-ltb, le-ltb, ltb-true, ltb-false}
 use Rattle.lists.specs.Bytes.{Bytes, eqBytes}
 use Rattle.lists.specs.Lists.{keep, collect, chunks, written, Each}
 use Rattle.lists.proofs.Elements.{each-join}
 use Rattle.lists.proofs.Keeping.{each-map}
 use Rattle.short_rows.specs.Mark.{markOf}
 use Rattle.short_rows.specs.Reading.{isNonce, noncesRead}
-use Rattle.short_rows.proofs.Bits.{mark-at}
+use Rattle.short_rows.proofs.Bits.{mark-lt, mark-at}
 use Rattle.short_rows.proofs.Marking.{none-marked}
 use Rattle.short_rows.proofs.Marks.{Ascending, ascending-from, ascending-few, nonces-back, ones-length}
 use Rattle.store_rules.specs.Frames.{Frame, Entry, Guard, nonceConsumed, Row, Visit}
 use Rattle.store_rules.specs.Poll.{Content, numbersFrom, gap, predecessors, unknown, guardMatches, stay, leave, row, pollRule}
 use Rattle.store_rules.specs.Rules.{onlyOf}
-use Rattle.store_rules.specs.Store.{Store, Call, push, poll, guard, enterTentative, checkReorg, checkFinalized, evictSender, RowForm, long, short, rowWidth, guardOf, dropGuard, walk, walked, listed, effect, refusal, unless, step}
+use Rattle.store_rules.specs.Lookup.{entriesOf}
+use Rattle.store_rules.specs.Store.{Store, Call, push, poll, guard, enterTentative, checkReorg, checkFinalized, evictSender, RowForm, long, short, rowWidth, guardOf, dropGuard, walk, walked, listed, effect, when, badContent, inputRefusal, roomRefusal, refusal, unless, step}
 use Rattle.store_rules.specs.Answers.{decisionNumber, rowNumbers, numbersOf}
 use Rattle.store_rules.proofs.PollCases.{PollCase, silent, consumed, holds, hold, waits, heldBack, rescued, poll-case}
 use Rattle.store_rules.proofs.RowForms.{row-length}
-use Rattle.store_laws.specs.ShortRows.{Says, rowsOf, EveryShortRow, Told, noncesIn, decode, decoded, polls, ShortAsLong}
+use Rattle.store_laws.specs.ShortRows.{Says, rowsOf, EveryShortRow, Told, noncesIn, decode, decoded, polls, ShortAsLong, ShortNeedsLess}
 
 -- ---- the nonces of a row are ascending, within the gap
 
@@ -133,6 +135,7 @@ module _ (r : Row) (n : Narrow r) where
       let e = r .frame .expected in
       record {
         counted = ones-length e (r .nonces) sixteen;
+        narrow = mark-lt e (r .nonces);
         bits = λ i h. mark-at e (r .nonces) i h;
         consumed = λ q. ap (markOf e) (n .consumed q) ∙ none-marked e;
         nonces = read;
@@ -186,3 +189,24 @@ short-as-long s sender head known content n m p q =
       stores = rw (l, r);
       told = rw (l, r) (told s sender head known content short ∙ sym (told s sender head known content long));
     }
+
+-- ---- room
+
+less-room : (numbers entries : ℕ) → when (ltb numbers (19 * entries)) 5 ≡ none → when (ltb numbers (5 * entries)) 5 ≡ none
+unfolding when
+less-room numbers entries h = go (ltb numbers (19 * entries)) refl h
+  where
+    go : (b : Bool) → ltb numbers (19 * entries) ≡ b → when b 5 ≡ none → when (ltb numbers (5 * entries)) 5 ≡ none
+    go true e h = absurd (Option·none-ne-some 5 (sym h))
+    go false e h = rw (le-ltb numbers (5 * entries) (omega (arith, ltb-false numbers (19 * entries) e)))
+
+pub short-needs-less : ShortNeedsLess
+unfolding refusal inputRefusal roomRefusal rowWidth orElse
+short-needs-less s sender head known content n = go (orElse (when (ltb 256 (length known)) 3) (when (badContent content) 4))
+  where
+    entries : ℕ
+    entries = length (entriesOf sender (s .entries))
+
+    go : (i : Option ℕ) → orElse i (when (ltb n (19 * entries)) 5) ≡ none → orElse i (when (ltb n (5 * entries)) 5) ≡ none
+    go (some m) h = h
+    go none h = less-room n entries h

@@ -27,7 +27,8 @@ countIn r = getD (rowNumbers short r) 4 0
 pub record Says (r : Row) : Type 0 where
   -- the count is their number
   pub counted : countIn r ≡ length (r .nonces)
-  -- bit i is set exactly when expected + i is listed
+  -- the mark has 16 bits, of which bit i is set exactly when expected + i is listed
+  pub narrow : markIn r < 2 ^ 16
   pub bits : (i : ℕ) → i < 16 → markIn r / 2 ^ i % 2 ≡ bit (isIn (r .frame .expected + i) (r .nonces))
   -- NonceConsumed has mark 0
   pub consumed : r .decision ≡ nonceConsumed → markIn r ≡ 0
@@ -74,7 +75,7 @@ pub record SamePoll (s : Store) (q r : Request) : Type 0 where
   -- one for one in order, in ticket, code and nonces
   pub told : decoded (r .form) (step s r .1) ≡ decoded (q .form) (step s q .1)
 
--- a poll that is lent so many numbers
+-- a poll with rows in this form that is lent so many numbers
 abbrev pub polls : RowForm → Bytes → ℕ → List ℕ → Option Content → ℕ → Request
 polls form sender head known content numbers = record { call = poll sender head known content; form = form; numbers = numbers; bytes = 0 }
 
@@ -83,3 +84,8 @@ abbrev pub ShortAsLong : Type 0
 ShortAsLong = (s : Store) (sender : Bytes) (head : ℕ) (known : List ℕ) (content : Option Content) (n m : ℕ) →
     refusal s (polls long sender head known content n) ≡ none → refusal s (polls short sender head known content m) ≡ none →
     SamePoll s (polls long sender head known content n) (polls short sender head known content m)
+
+-- a slice that is long enough for the long rows is so for the short ones
+abbrev pub ShortNeedsLess : Type 0
+ShortNeedsLess = (s : Store) (sender : Bytes) (head : ℕ) (known : List ℕ) (content : Option Content) (n : ℕ) →
+    refusal s (polls long sender head known content n) ≡ none → refusal s (polls short sender head known content n) ≡ none
