@@ -1,24 +1,24 @@
 -- Rows: the numbers of one, and how many a poll gives.
-use Prim.Native.Nat.{ℕ, zero, suc, _+_, _-_, _≤_, min}
+use Prim.Native.Nat.{ℕ, _+_, _-_, _≤_}
 use native.Mathlib.Omega.{arith}
-use mathlib.Core.Path.{_≡_, refl, ap, _∙_}
+use mathlib.Core.Path.{_≡_, refl, _∙_}
 use mathlib.Core.Bool.{Bool, true, false, cond}
 use mathlib.Core.List.{List, [], _∷_, _++_}
 use mathlib.Core.Option.{Option}
-use lib.Dec.{leb}
 use lib.Count.{ones}
 use lib.ListN.{length, replicate, length-append}
 use Rattle.lists.specs.Bytes.{Bytes, eqBytes}
 use Rattle.lists.specs.Lists.{keep, written, writtenAt}
-use Rattle.lists.proofs.Elements.{length-keep}
+use Rattle.lists.proofs.Keeping.{keep-each, each-of}
 use Rattle.lists.proofs.Writing.{at-behind}
 use Rattle.short_rows.specs.Mark.{markOf}
 use Rattle.store_rules.specs.Frames.{Frame, Entry, Guard, Row, Visit}
-use Rattle.store_rules.specs.Poll.{Content, numbersFrom, gap, predecessors, unknown, guardMatches, stay, leave, row, pollRule}
+use Rattle.store_rules.specs.Poll.{Content, predecessors, unknown, guardMatches, stay, leave, row, pollRule}
 use Rattle.store_rules.specs.Rules.{onlyOf}
 use Rattle.store_rules.specs.Lookup.{entriesOf}
 use Rattle.store_rules.specs.Store.{RowForm, long, short, rowWidth, guardOf, dropGuard, walk}
 use Rattle.store_rules.specs.Answers.{decisionNumber, rowNumbers}
+use Rattle.store_rules.proofs.GapNonces.{preds-in-gap, unknown-in-gap, gap-few}
 use Rattle.store_rules.proofs.RowForms.{row-length}
 use Rattle.store_rules.proofs.PollCases.{PollCase, silent, consumed, holds, hold, waits, heldBack, rescued, poll-case}
 use Rattle.decisions.specs.Courses.{decisionOf, noncesOf, isListed, rowOf}
@@ -28,9 +28,7 @@ use Rattle.decisions.specs.declared.rows.Telling.the-variants.{Consumed,
 -- ---- the nonces of a row
 
 keep-all : (l : List ℕ) → keep (λ n. true) l ≡ l
-unfolding keep
-keep-all [] = refl
-keep-all (x ∷ xs) = ap {B = List ℕ} (λ r. x ∷ r) (keep-all xs)
+keep-all l = keep-each (λ n. true) l (each-of (λ n. true ≡ true) l (λ x m. refl))
 
 keep-nothing : (l : List ℕ) → keep (λ n. false) l ≡ []
 unfolding keep
@@ -45,17 +43,12 @@ nonces-are Waits head known f = refl
 nonces-are HeldBack head known f = keep-all (predecessors head f)
 nonces-are Rescued head known f = keep-all (predecessors head f)
 
-length-numbers : (n count : ℕ) → length (numbersFrom n count) ≡ count
-unfolding numbersFrom
-length-numbers n zero = refl
-length-numbers n (suc count) = ap suc (length-numbers (suc n) count)
-
-few-preds : (head : ℕ) (f : Frame) → length (predecessors head f) ≤ 16
-unfolding predecessors gap
-few-preds head f = omega (arith, length-keep (λ n. leb head n) (numbersFrom (f .expected) (min 16 (f .claim - f .expected))), length-numbers (f .expected) (min 16 (f .claim - f .expected)))
-
 few-nonces : (t : Telling) (head : ℕ) (known : List ℕ) (f : Frame) → length (noncesOf t head known f) ≤ 16
-few-nonces t head known f = rw (← nonces-are t head known f) (omega (arith, length-keep (isListed t known) (predecessors head f), few-preds head f))
+few-nonces Consumed head known f = omega arith
+few-nonces Hold head known f = gap-few f (unknown head known f) (unknown-in-gap head f known)
+few-nonces Waits head known f = gap-few f (unknown head known f) (unknown-in-gap head f known)
+few-nonces HeldBack head known f = gap-few f (predecessors head f) (preds-in-gap head f)
+few-nonces Rescued head known f = gap-few f (predecessors head f) (preds-in-gap head f)
 
 -- ---- the numbers of a row
 

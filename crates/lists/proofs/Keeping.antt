@@ -19,6 +19,12 @@ module _ {A : Type 0} where
   unfolding keep
   keep-cong p x xs ys h = ap (λ (l : List A). cond (p x) (x ∷ l) l) h
 
+  -- where every element passes, all are kept
+  pub keep-each : (p : A → Bool) (xs : List A) → Each (λ x. p x ≡ true) xs → keep p xs ≡ xs
+  unfolding keep
+  keep-each p [] h = refl
+  keep-each p (x ∷ xs) h = rw (h .0, keep-each p xs (h .1))
+
   pub each-map : (P Q : A → Type 0) (xs : List A) → ((x : A) → P x → Q x) → Each P xs → Each Q xs
   each-map P Q [] f h = tt
   each-map P Q (x ∷ xs) f h = (f x (h .0), each-map P Q xs f (h .1))

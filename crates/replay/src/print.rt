@@ -120,32 +120,6 @@ pub(crate) fn answer(out: &mut Output, a: Answer) -> usize {
 
 // ---- lists
 
-// Rows of so many numbers, each behind a bar.
-pub(crate) fn rows(out: &mut Output, list: &[u64], width: usize, rows: usize) {
-    let mut at = 0;
-    let mut i = 0;
-    while i < rows {
-        if list.len() - at < width {
-            return;
-        }
-        let end = at + width;
-        text(out, b" |");
-        numbers(out, &list[at..end], width);
-        at = end;
-        i += 1;
-    }
-}
-
-// A poll's answer and its rows, which are as wide as the answer says.
-pub(crate) fn polled(out: &mut Output, a: Answer, list: &[u64]) {
-    let n = answer(out, a);
-    if let Answer::ShortRows(_) = a {
-        rows(out, list, 5, n);
-        return;
-    }
-    rows(out, list, 19, n);
-}
-
 // Rows of so many numbers and so many hashes of 32 bytes, each row behind a bar.
 pub(crate) fn rows_with_hashes(
     out: &mut Output,
@@ -169,6 +143,22 @@ pub(crate) fn rows_with_hashes(
         from = parts(out, bytes, from, 32, hashes);
         i += 1;
     }
+}
+
+// Rows of so many numbers, each behind a bar.
+fn rows(out: &mut Output, list: &[u64], width: usize, rows: usize) {
+    let none = [0u8; 0];
+    rows_with_hashes(out, list, width, &none, 0, rows);
+}
+
+// A poll's answer and its rows, which are as wide as the answer says.
+pub(crate) fn polled(out: &mut Output, a: Answer, list: &[u64]) {
+    let n = answer(out, a);
+    if let Answer::ShortRows(_) = a {
+        rows(out, list, 5, n);
+        return;
+    }
+    rows(out, list, 19, n);
 }
 
 // So many parts of one width, from an offset on; the offset behind them.

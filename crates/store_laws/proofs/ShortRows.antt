@@ -1,81 +1,51 @@
 -- Every short row says what it should (`every-short-row`), short rows tell what long ones do (`short-as-long`), and take less room
 -- (`short-needs-less`).
-use Prim.Native.Nat.{ℕ, zero, suc, _+_, _*_, _-_, _^_, _≤_, _<_, min}
+use Prim.Native.Nat.{ℕ, suc, _+_, _*_, _-_, _^_, _≤_, _<_}
 use native.Mathlib.Omega.{arith}
 use mathlib.Core.Path.{_≡_, refl, sym, ap, _∙_}
 use mathlib.Core.Bool.{Bool, true, false, cond}
 use mathlib.Core.List.{List, [], _∷_, map}
 use mathlib.Core.Option.{Option, none, some, orElse, Option·none-ne-some}
-use lib.Dec.{leb, ltb}
+use lib.Dec.{ltb}
 use lib.ListN.{length, replicate, drop}
 use lib.Seq.{take-at, drop-at}
 use borrow.Author.Tests.{lt-ltb, le-ltb, ltb-true, ltb-false}
 use Rattle.lists.specs.Bytes.{Bytes, eqBytes}
-use Rattle.lists.specs.Lists.{keep, collect, chunks, written, Each}
+use Rattle.lists.specs.Lists.{collect, chunks, written, Each}
 use Rattle.lists.proofs.Elements.{each-join}
-use Rattle.lists.proofs.Keeping.{each-map}
+use Rattle.lists.proofs.Keeping.{keep-each, each-map}
 use Rattle.short_rows.specs.Mark.{markOf}
 use Rattle.short_rows.specs.Reading.{isNonce, noncesRead}
 use Rattle.short_rows.proofs.Bits.{mark-lt, mark-at}
 use Rattle.short_rows.proofs.Marking.{none-marked}
-use Rattle.short_rows.proofs.Marks.{Ascending, ascending-from, ascending-few, nonces-back, ones-length}
-use Rattle.store_rules.specs.Frames.{Frame, Entry, Guard, nonceConsumed, Row, Visit}
-use Rattle.store_rules.specs.Poll.{Content, numbersFrom, gap, predecessors, unknown, guardMatches, stay, leave, row, pollRule}
+use Rattle.short_rows.proofs.Marks.{Ascending, nonces-back, ones-length}
+use Rattle.store_rules.specs.Frames.{Entry, Guard, nonceConsumed, Row, Visit}
+use Rattle.store_rules.specs.Poll.{Content, gap, predecessors, guardMatches, stay, leave, row, pollRule}
 use Rattle.store_rules.specs.Rules.{onlyOf}
 use Rattle.store_rules.specs.Lookup.{entriesOf}
 use Rattle.store_rules.specs.Store.{Store, Call, push, poll, guard, enterTentative, checkReorg, checkFinalized, evictSender, RowForm, long, short, rowWidth, guardOf, dropGuard, walk, walked, listed, effect, when, badContent, inputRefusal, roomRefusal, refusal, unless, step}
 use Rattle.store_rules.specs.Answers.{decisionNumber, rowNumbers, numbersOf}
+use Rattle.store_rules.proofs.GapNonces.{InGap, preds-in-gap, unknown-in-gap, gap-few}
 use Rattle.store_rules.proofs.PollCases.{PollCase, silent, consumed, holds, hold, waits, heldBack, rescued, poll-case}
 use Rattle.store_rules.proofs.RowForms.{row-length}
 use Rattle.store_laws.specs.ShortRows.{Says, rowsOf, EveryShortRow, Told, noncesIn, decode, decoded, polls, ShortAsLong, ShortNeedsLess}
 
--- ---- the nonces of a row are ascending, within the gap
+-- ---- the rows of a poll, in every case of its rule
 
-numbers-ascending : (n m high : ℕ) → n + m ≤ high → Ascending n high (numbersFrom n m)
-unfolding numbersFrom
-numbers-ascending n zero high h = tt
-numbers-ascending n (suc m) high h = (omega arith, omega arith, numbers-ascending (suc n) m high (omega arith))
-
-keep-ascending : (p : ℕ → Bool) (low high : ℕ) (l : List ℕ) → Ascending low high l → Ascending low high (keep p l)
-unfolding keep
-keep-ascending p low high [] a = tt
-keep-ascending p low high (x ∷ xs) a = go (p x) (keep-ascending p (suc x) high xs (a .2))
-  where
-    go : (b : Bool) → Ascending (suc x) high (keep p xs) → Ascending low high (cond b (x ∷ keep p xs) (keep p xs))
-    go true t = (a .0, a .1, t)
-    go false t = ascending-from (suc x) low high (keep p xs) (omega (arith, a .0)) t
-
--- in the first 16 nonces of the frame's gap
-abbrev InGap : Frame → List ℕ → Type 0
-InGap f = Ascending (f .expected) (f .expected + min 16 (f .claim - f .expected))
-
-module _ (head : ℕ) (f : Frame) where
-  preds-ascending : InGap f (predecessors head f)
-  unfolding predecessors gap
-  preds-ascending =
-      let m : ℕ = min 16 (f .claim - f .expected) in
-      keep-ascending (λ n. leb head n) (f .expected) (f .expected + m) (numbersFrom (f .expected) m) (numbers-ascending (f .expected) m (f .expected + m) (omega arith))
-
-  unknown-ascending : (known : List ℕ) → InGap f (unknown head known f)
-  unfolding unknown
-  unknown-ascending known = keep-ascending _ (f .expected) (f .expected + min 16 (f .claim - f .expected)) (predecessors head f) preds-ascending
-
--- .. and NonceConsumed lists none
+-- a row lists nonces of the gap, and NonceConsumed none
 record Narrow (r : Row) : Type 0 where
   ascending : InGap (r .frame) (r .nonces)
   consumed : r .decision ≡ nonceConsumed → r .nonces ≡ []
-
--- ---- the rows of a poll, in every case of its rule
 
 visit-narrow : (head : ℕ) (known : List ℕ) (guarded : Bool) (e : Entry) (v : Visit Row) → PollCase head known guarded e v → Each Narrow (v .lists)
 unfolding stay leave row
 visit-narrow head known guarded e v (silent t) = tt
 visit-narrow head known guarded e v (consumed t y) = (record { ascending = tt; consumed = λ q. refl }, tt)
 visit-narrow head known guarded e v (holds t y x z) = tt
-visit-narrow head known guarded e v (hold t y x z) = (record { ascending = unknown-ascending head (e .frame) known; consumed = λ q. cc }, tt)
-visit-narrow head known guarded e v (waits t y x u) = (record { ascending = unknown-ascending head (e .frame) known; consumed = λ q. cc }, tt)
-visit-narrow head known guarded e v (heldBack t y x u g) = (record { ascending = preds-ascending head (e .frame); consumed = λ q. cc }, tt)
-visit-narrow head known guarded e v (rescued t y x u g) = (record { ascending = preds-ascending head (e .frame); consumed = λ q. cc }, tt)
+visit-narrow head known guarded e v (hold t y x z) = (record { ascending = unknown-in-gap head (e .frame) known; consumed = λ q. cc }, tt)
+visit-narrow head known guarded e v (waits t y x u) = (record { ascending = unknown-in-gap head (e .frame) known; consumed = λ q. cc }, tt)
+visit-narrow head known guarded e v (heldBack t y x u g) = (record { ascending = preds-in-gap head (e .frame); consumed = λ q. cc }, tt)
+visit-narrow head known guarded e v (rescued t y x u g) = (record { ascending = preds-in-gap head (e .frame); consumed = λ q. cc }, tt)
 
 rule-narrow : (a : Bytes) (head : ℕ) (known : List ℕ) (content : Option Content) (g : Option Guard) (e : Entry) → Each Narrow (onlyOf a (pollRule head known content) g e .lists)
 unfolding onlyOf pollRule stay
@@ -113,11 +83,10 @@ ascending-to : (low high high′ : ℕ) (l : List ℕ) → high ≤ high′ → 
 ascending-to low high high′ [] h a = tt
 ascending-to low high high′ (x ∷ xs) h a = (a .0, omega (arith, a .1), ascending-to (suc x) high high′ xs h (a .2))
 
--- numbers below an end that is a nonce
-keep-nonces : (low high : ℕ) (l : List ℕ) → Ascending low high l → ((n : ℕ) → low ≤ n → n < high → isNonce n ≡ true) → keep isNonce l ≡ l
-unfolding keep
-keep-nonces low high [] a h = refl
-keep-nonces low high (x ∷ xs) a h = rw (h x (a .0) (a .1), keep-nonces (suc x) high xs (a .2) (λ n b c. h n (omega (arith, a .0)) c))
+-- numbers below an end, of which each is a nonce
+each-nonce : (low high : ℕ) (l : List ℕ) → Ascending low high l → ((n : ℕ) → low ≤ n → n < high → isNonce n ≡ true) → Each (λ n. isNonce n ≡ true) l
+each-nonce low high [] a h = tt
+each-nonce low high (x ∷ xs) a h = (h x (a .0) (a .1), each-nonce (suc x) high xs (a .2) (λ n b c. h n (omega (arith, a .0)) c))
 
 module _ (r : Row) (n : Narrow r) where
   sixteen : Ascending (r .frame .expected) (r .frame .expected + 16) (r .nonces)
@@ -127,7 +96,8 @@ module _ (r : Row) (n : Narrow r) where
   unfolding noncesRead
   read claim =
       rw (nonces-back (r .frame .expected) (r .nonces) sixteen)
-      (keep-nonces (r .frame .expected) _ (r .nonces) (n .ascending) (λ x b c. lt-ltb x (2 ^ 64) (omega (arith, ltb-true (r .frame .claim) (2 ^ 64) claim))))
+      (keep-each isNonce (r .nonces)
+      (each-nonce (r .frame .expected) _ (r .nonces) (n .ascending) (λ x b c. lt-ltb x (2 ^ 64) (omega (arith, ltb-true (r .frame .claim) (2 ^ 64) claim)))))
 
   row-says : Says r
   unfolding rowNumbers
@@ -155,9 +125,6 @@ every-short-row s q = go (refusal s q)
 tells : Row → Told
 tells r = record { ticket = r .frame .ticket; code = decisionNumber (r .decision); nonces = r .nonces }
 
-few : (r : Row) → Narrow r → length (r .nonces) ≤ 16
-few r n = let h = ascending-few (r .frame .expected) (r .frame .expected + 16) (r .nonces) (omega arith) (sixteen r n) in omega arith
-
 decode-row : (form : RowForm) (r : Row) → Narrow r → decode form (rowNumbers form r) ≡ tells r
 unfolding decode noncesIn rowNumbers tells
 decode-row long r n = rw (take-at (r .nonces) (drop (length (r .nonces)) (replicate 16 0)) (length (r .nonces)) refl)
@@ -167,7 +134,7 @@ decode-rows : (form : RowForm) (l : List Row) → Each Narrow l → map (decode 
 unfolding chunks collect
 decode-rows form [] n = refl
 decode-rows form (r ∷ rs) n =
-    let w = row-length form r (few r (n .0)) in
+    let w = row-length form r (gap-few (r .frame) (r .nonces) (n .0 .ascending)) in
     rw
     (take-at (rowNumbers form r) (collect (rowNumbers form) rs) (rowWidth form) w, drop-at (rowNumbers form r) (collect (rowNumbers form) rs) (rowWidth form) w, decode-row form r (n .0), decode-rows form rs (n .1))
 

@@ -1,3 +1,4 @@
+pub mod GapNonces
 pub mod InPlace
 pub mod Lookups
 pub mod Matches
