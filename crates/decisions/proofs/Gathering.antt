@@ -7,8 +7,8 @@ use mathlib.Core.Bool.{Bool, true, false, not, cond}
 use mathlib.Core.List.{List, [], _∷_, _++_, append-nil}
 use lib.Dec.{leb}
 use borrow.Author.Tests.{le-leb, lt-leb}
-use Rattle.lists.specs.Lists.{keep, isEmpty, isIn}
-use Rattle.store_rules.specs.Poll.{numbersFrom}
+use Rattle.lists.specs.Lists.{keep, isEmpty, isIn, numbersFrom}
+use Rattle.lists.proofs.Counting.{numbers-on}
 
 -- ---- numbers, from the front
 
@@ -53,27 +53,20 @@ module _ (head n i : ℕ) where
 abbrev pub missingIn : ℕ → List ℕ → List ℕ → List ℕ
 missingIn head known l = keep (λ k. not (isIn k known)) (keep (λ k. leb head k) l)
 
-rest-on : (n m i : ℕ) → i < m → numbersFrom (n + i) (m - i) ≡ (n + i) ∷ numbersFrom (n + (i + 1)) (m - (i + 1))
-unfolding numbersFrom
-rest-on n m i h =
-    let k : m - i ≡ suc (m - (i + 1)) = omega arith in
-    let s : suc (n + i) ≡ n + (i + 1) = omega arith in
-    rw k (ap (λ (j : ℕ). (n + i) ∷ numbersFrom j (m - (i + 1))) s)
-
 -- a turn of the search among the m numbers from n on
 module _ (head : ℕ) (known : List ℕ) (n m i : ℕ) (b : i < m) (so : isEmpty (missingIn head known (numbersFrom n m)) ≡ isEmpty (missingIn head known (numbersFrom (n + i) (m - i)))) where
   pub found-unknown : head ≤ n + i → isIn (n + i) known ≡ false → isEmpty (missingIn head known (numbersFrom n m)) ≡ false
   unfolding keep isEmpty
-  found-unknown h t = so ∙ rw (rest-on n m i b, le-leb head (n + i) h, t)
+  found-unknown h t = so ∙ rw (numbers-on n m i b, le-leb head (n + i) h, t)
 
   pub passed-known : head ≤ n + i → isIn (n + i) known ≡ true →
       isEmpty (missingIn head known (numbersFrom n m)) ≡ isEmpty (missingIn head known (numbersFrom (n + (i + 1)) (m - (i + 1))))
   unfolding keep
-  passed-known h t = so ∙ rw (rest-on n m i b, le-leb head (n + i) h, t)
+  passed-known h t = so ∙ rw (numbers-on n m i b, le-leb head (n + i) h, t)
 
   pub passed-below : n + i < head → isEmpty (missingIn head known (numbersFrom n m)) ≡ isEmpty (missingIn head known (numbersFrom (n + (i + 1)) (m - (i + 1))))
   unfolding keep
-  passed-below h = so ∙ rw (rest-on n m i b, lt-leb head (n + i) h)
+  passed-below h = so ∙ rw (numbers-on n m i b, lt-leb head (n + i) h)
 
 pub none-unknown : (head : ℕ) (known : List ℕ) (n m i : ℕ) → m ≤ i →
     isEmpty (missingIn head known (numbersFrom n m)) ≡ isEmpty (missingIn head known (numbersFrom (n + i) (m - i))) → isEmpty (missingIn head known (numbersFrom n m)) ≡ true

@@ -2,6 +2,7 @@ pub mod Ascending
 pub mod ByteOrder
 pub mod Chunks
 pub mod Compacting
+pub mod Counting
 pub mod Elements
 pub mod Keeping
 pub mod Listing

@@ -48,6 +48,11 @@ unfoldable pub chunks : ℕ → ℕ → List ℕ → List (List ℕ)
 chunks width zero l = []
 chunks width (suc count) l = take width l ∷ chunks width count (drop width l)
 
+-- n, n + 1, .., in all `count` numbers
+unfoldable pub numbersFrom : ℕ → ℕ → List ℕ
+numbersFrom n zero = []
+numbersFrom n (suc count) = n ∷ numbersFrom (suc n) count
+
 -- whether a number is in the list
 unfoldable pub isIn : ℕ → List ℕ → Bool
 isIn n [] = false

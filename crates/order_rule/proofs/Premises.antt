@@ -60,7 +60,7 @@ hasBoundary n (some g) = boundaryHolds (g .kind) n
 -- ---- the claims
 
 pub premises : Premises
-unfolding Store.refusal run empty Store.step Store.unless orElse Store.inputRefusal Store.roomRefusal Store.rowWidth Store.effect Store.walk Store.walked Store.insert Store.fresh Lookup.enters Lookup.foundBehind Lookup.firstOf Lookup.lookup Lookup.isFound Lookup.enterWith Lookup.enterHead Lookup.enterFirst isTracked guardOf isGuarded Store.dropGuard Store.putGuard Store.after Store.when Store.wideGap Store.badContent Store.badContents Store.noRoomFor Store.listed Lookup.entriesOf calls keep Search.firstAt Lists.isEmpty Lists.isIn eqBytes leBytes degraded Poll.numbersFrom Poll.gap Poll.predecessors Poll.unknown boundaryHolds Poll.guardMatches Poll.stay Poll.leave Poll.pollFull Poll.pollIn Poll.pollGiven Poll.pollRule Rules.onlyOf Rules.evictRule Rules.differs Rules.reorgIn Rules.reorgRule Rules.finalIn Rules.finalRule keyBy ownerIn Orders.ownerBy pushOf transcript Orders.shown aboutRoom Orders.eqKey Orders.isFor Orders.ofKey misfits hasBoundary a b h i frame Premises.ask parks parksOf Premises.enters100 Premises.finalized100 Premises.reorganised100 Premises.polls Premises.pollsShort Premises.guards guardsOf enterBefore enterAfter finalityLast finalityBetween reorgLast reorgBetween pollAfter pollBefore fiveThenSix sixThenFive evictFirst evictLast pollLacksRoom shortLacksRoom dropFirst dropLast aThenB bBetween
+unfolding Store.refusal run empty Store.step Store.unless orElse Store.inputRefusal Store.roomRefusal Store.rowWidth Store.effect Store.walk Store.walked Store.insert Store.fresh Lookup.enters Lookup.foundBehind Lookup.firstOf Lookup.lookup Lookup.isFound Lookup.enterWith Lookup.enterHead Lookup.enterFirst isTracked guardOf isGuarded Store.dropGuard Store.putGuard Store.after Store.when Store.wideGap Store.badContent Store.badContents Store.noRoomFor Store.listed Lookup.entriesOf calls keep Search.firstAt Lists.isEmpty Lists.isIn Lists.numbersFrom eqBytes leBytes degraded Poll.gap Poll.predecessors Poll.unknown boundaryHolds Poll.guardMatches Poll.stay Poll.leave Poll.pollFull Poll.pollIn Poll.pollGiven Poll.pollRule Rules.onlyOf Rules.evictRule Rules.differs Rules.reorgIn Rules.reorgRule Rules.finalIn Rules.finalRule keyBy ownerIn Orders.ownerBy pushOf transcript Orders.shown aboutRoom Orders.eqKey Orders.isFor Orders.ofKey misfits hasBoundary a b h i frame Premises.ask parks parksOf Premises.enters100 Premises.finalized100 Premises.reorganised100 Premises.polls Premises.pollsShort Premises.guards guardsOf enterBefore enterAfter finalityLast finalityBetween reorgLast reorgBetween pollAfter pollBefore fiveThenSix sixThenFive evictFirst evictLast pollLacksRoom shortLacksRoom dropFirst dropLast aThenB bBetween
 premises = record {
   oneSender = (
     rest (swap (keyBy (ownerIn (calls enterBefore))) _ _ (sender b) (sender a) refl refl refl (also (sender b) refl nothing) nothing),

@@ -28,7 +28,7 @@ pub record Computed : Type 0 where
   pub ends : told (after (pushed 8) mining) (checkFinalized 100) 3 64 ≡ 1
 
 pub computed : Computed
-unfolding bytes.eqBytes bytes.leBytes lists.keep lists.isEmpty lists.isIn frames.degraded polls.numbersFrom polls.gap polls.predecessors polls.unknown polls.firstIs polls.contentsHold polls.contentMatches polls.boundaryHolds polls.guardMatches polls.stay polls.leave polls.row polls.pollFull polls.pollIn polls.pollGiven polls.pollRule rules.onlyOf rules.evictRule rules.finalIn rules.finalRule stores.empty stores.guardOf stores.dropGuard stores.putGuard stores.after stores.walk stores.walked stores.fresh stores.insert frames.isTracked search.firstAt lookups.entriesOf lookups.enters lookups.foundBehind lookups.firstOf lookups.lookup lookups.isFound lookups.enterWith lookups.enterHead lookups.enterFirst stores.effect stores.when orElse stores.wideGap stores.badContent stores.badContents stores.noRoomFor stores.inputRefusal stores.listed stores.roomRefusal stores.rowWidth stores.refusal stores.unless stores.step answers.said pushed guardedBy
+unfolding bytes.eqBytes bytes.leBytes lists.keep lists.isEmpty lists.isIn lists.numbersFrom frames.degraded polls.gap polls.predecessors polls.unknown polls.firstIs polls.contentsHold polls.contentMatches polls.boundaryHolds polls.guardMatches polls.stay polls.leave polls.row polls.pollFull polls.pollIn polls.pollGiven polls.pollRule rules.onlyOf rules.evictRule rules.finalIn rules.finalRule stores.empty stores.guardOf stores.dropGuard stores.putGuard stores.after stores.walk stores.walked stores.fresh stores.insert frames.isTracked search.firstAt lookups.entriesOf lookups.enters lookups.foundBehind lookups.firstOf lookups.lookup lookups.isFound lookups.enterWith lookups.enterHead lookups.enterFirst stores.effect stores.when orElse stores.wideGap stores.badContent stores.badContents stores.noRoomFor stores.inputRefusal stores.listed stores.roomRefusal stores.rowWidth stores.refusal stores.unless stores.step answers.said pushed guardedBy
 computed =
     record {
       polled = record { store = refl; seen = refl };
@@ -50,7 +50,7 @@ pub record Polled (n : ℕ) : Type 0 where
   pub enters : told (pushed n) mining 0 0 ≡ 1
 
 by-size : (a b : Bool) → Polled (sizeOf a b)
-unfolding bytes.eqBytes bytes.leBytes lists.keep lists.isEmpty lists.isIn frames.degraded polls.numbersFrom polls.gap polls.predecessors polls.unknown polls.firstIs polls.contentsHold polls.contentMatches polls.boundaryHolds polls.guardMatches polls.stay polls.leave polls.row polls.pollFull polls.pollIn polls.pollGiven polls.pollRule rules.onlyOf rules.evictRule rules.finalIn rules.finalRule stores.empty stores.guardOf stores.dropGuard stores.putGuard stores.after stores.walk stores.walked stores.fresh stores.insert frames.isTracked search.firstAt lookups.entriesOf lookups.enters lookups.foundBehind lookups.firstOf lookups.lookup lookups.isFound lookups.enterWith lookups.enterHead lookups.enterFirst stores.effect stores.when orElse stores.wideGap stores.badContent stores.badContents stores.noRoomFor stores.inputRefusal stores.listed stores.roomRefusal stores.rowWidth stores.refusal stores.unless stores.step answers.said pushed guardedBy
+unfolding bytes.eqBytes bytes.leBytes lists.keep lists.isEmpty lists.isIn lists.numbersFrom frames.degraded polls.gap polls.predecessors polls.unknown polls.firstIs polls.contentsHold polls.contentMatches polls.boundaryHolds polls.guardMatches polls.stay polls.leave polls.row polls.pollFull polls.pollIn polls.pollGiven polls.pollRule rules.onlyOf rules.evictRule rules.finalIn rules.finalRule stores.empty stores.guardOf stores.dropGuard stores.putGuard stores.after stores.walk stores.walked stores.fresh stores.insert frames.isTracked search.firstAt lookups.entriesOf lookups.enters lookups.foundBehind lookups.firstOf lookups.lookup lookups.isFound lookups.enterWith lookups.enterHead lookups.enterFirst stores.effect stores.when orElse stores.wideGap stores.badContent stores.badContents stores.noRoomFor stores.inputRefusal stores.listed stores.roomRefusal stores.rowWidth stores.refusal stores.unless stores.step answers.said pushed guardedBy
 by-size true b = record { few = omega arith; waits = refl; waits-short = refl; held-back = refl; rescued = refl; enters = refl }
 by-size false true = record { few = omega arith; waits = refl; waits-short = refl; held-back = refl; rescued = refl; enters = refl }
 by-size false false = record { few = omega arith; waits = refl; waits-short = refl; held-back = refl; rescued = refl; enters = refl }

@@ -5,8 +5,8 @@ use mathlib.Core.Path.{_≡_, refl, ap}
 use mathlib.Core.Bool.{Bool, true, false, _&&_, _||_}
 use lib.Dec.{eqb, leb, ltb}
 use borrow.Author.Tests.{eqb-true, eqb-false, leb-true, leb-false, ltb-true, ltb-false, le-leb, lt-leb, lt-ltb, le-ltb}
-use Rattle.lists.specs.Lists.{isIn}
-use Rattle.store_rules.specs.Poll.{numbersFrom, gap}
+use Rattle.lists.specs.Lists.{isIn, numbersFrom}
+use Rattle.store_rules.specs.Poll.{gap}
 use Rattle.store_rules.specs.Store.{wideGap}
 use Rattle.store_laws.specs.Reachable.{GapIsWhole}
 

@@ -6,9 +6,9 @@ use mathlib.Core.List.{List}
 use lib.Dec.{leb, ltb}
 use lib.ListN.{length}
 use Rattle.lists.specs.Bytes.{eqBytes}
-use Rattle.lists.specs.Lists.{Each, Pairwise, isIn}
+use Rattle.lists.specs.Lists.{Each, Pairwise, isIn, numbersFrom}
 use Rattle.store_rules.specs.Frames.{Frame, Guard}
-use Rattle.store_rules.specs.Poll.{numbersFrom, gap}
+use Rattle.store_rules.specs.Poll.{gap}
 use Rattle.store_rules.specs.Store.{Store, empty, Sorted, Request, wideGap, run}
 
 pub record Reachable (s : Store) : Type 0 where

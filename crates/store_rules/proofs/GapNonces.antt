@@ -5,10 +5,10 @@ use mathlib.Core.Bool.{Bool, true, false, not, cond}
 use mathlib.Core.List.{List, [], _∷_}
 use lib.Dec.{leb}
 use lib.ListN.{length}
-use Rattle.lists.specs.Lists.{keep, isIn}
+use Rattle.lists.specs.Lists.{keep, isIn, numbersFrom}
 use Rattle.short_rows.proofs.Marks.{Ascending, ascending-from, ascending-few}
 use Rattle.store_rules.specs.Frames.{Frame}
-use Rattle.store_rules.specs.Poll.{numbersFrom, gap, predecessors, unknown}
+use Rattle.store_rules.specs.Poll.{gap, predecessors, unknown}
 
 numbers-ascending : (n m high : ℕ) → n + m ≤ high → Ascending n high (numbersFrom n m)
 unfolding numbersFrom

@@ -1,20 +1,15 @@
 -- What a poll does to one entry: document 01's rules 1 to 7, and the guard's match.
-use Prim.Native.Nat.{ℕ, zero, suc, _-_, min}
+use Prim.Native.Nat.{ℕ, _-_, min}
 use mathlib.Core.Bool.{Bool, true, false, _&&_, not, cond}
 use mathlib.Core.List.{List, [], _∷_}
 use mathlib.Core.Option.{Option, none, some}
 use lib.Dec.{eqb, leb, ltb}
 use lib.ListN.{take, drop}
 use Rattle.lists.specs.Bytes.{Bytes, eqBytes, eqNumbers}
-use Rattle.lists.specs.Lists.{keep, isEmpty, isIn}
+use Rattle.lists.specs.Lists.{keep, isEmpty, isIn, numbersFrom}
 use Rattle.store_rules.specs.Frames.{Frame, State, tracked, tentative, Standing, Entry, degraded, GuardKind, reparked, unhydratable, Guard, Decision, rescue, nonceConsumed, stillWaiting, Row, Visit}
 
 -- ---- rule 4: the gap, the predecessors, the unknown
-
--- n, n + 1, .., in all `count` numbers
-unfoldable pub numbersFrom : ℕ → ℕ → List ℕ
-numbersFrom n zero = []
-numbersFrom n (suc count) = n ∷ numbersFrom (suc n) count
 
 -- Every n with expected <= n < claim. No push lets in a gap over 16; of a wider one these are the first 16.
 unfoldable pub gap : Frame → List ℕ

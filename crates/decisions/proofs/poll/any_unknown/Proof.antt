@@ -2,8 +2,8 @@ use Prim.Native.Nat.{_+_, _-_, _≤_}
 use native.Mathlib.Nat.{add-zero, sub-zero}
 use mathlib.Core.Path.{_≡_, sym, _∙_}
 use borrow.Author.Tests.{not-true, not-false}
-use Rattle.lists.specs.Lists.{isEmpty}
-use Rattle.store_rules.specs.Poll.{numbersFrom, gap, predecessors, unknown}
+use Rattle.lists.specs.Lists.{isEmpty, numbersFrom}
+use Rattle.store_rules.specs.Poll.{gap, predecessors, unknown}
 use Rattle.decisions.proofs.Gathering.{missingIn, found-unknown, passed-known, passed-below, none-unknown}
 use borrow.Author.Needs.{needs}
 use Rattle.decisions.proofs.poll.any_unknown.Statement.{statement}

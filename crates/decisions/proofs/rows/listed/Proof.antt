@@ -1,9 +1,9 @@
 use Prim.Native.Nat.{_-_, _≤_}
 use native.Mathlib.Omega.{arith}
 use mathlib.Core.Path.{_≡_, sym, _∙_}
-use Rattle.lists.specs.Lists.{keep}
+use Rattle.lists.specs.Lists.{keep, numbersFrom}
 use Rattle.short_rows.proofs.Gathering.{Gathers, gather-none, gather-hit, gather-miss, gathered}
-use Rattle.store_rules.specs.Poll.{numbersFrom, gap, predecessors}
+use Rattle.store_rules.specs.Poll.{gap, predecessors}
 use Rattle.store_rules.specs.View.{frameOf}
 use Rattle.decisions.specs.Courses.{isListed}
 use Rattle.decisions.proofs.Gathering.{predsOf, pred-more, pred-same, keep-hit, keep-miss}
