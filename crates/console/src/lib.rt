@@ -86,9 +86,10 @@ pub fn next(out: &mut Output, n: u64)
 pub fn hex(out: &mut Output, bytes: &[u8])
     ensures { λ _. ⌜ waits (now (out .exit)) ≡ allBehind (waits (now (out .entry))) (pairs (now (bytes .entry))) ⌝ }
 {
+    let pairs = wire::hex_pairs();
     let mut i = 0;
     while i < bytes.len() {
-        let pair = wire::hex_pair(bytes[i]);
+        let pair = wire::hex_pair(&pairs, bytes[i]);
         text(out, &pair);
         i += 1;
     }

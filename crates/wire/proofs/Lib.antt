@@ -1,3 +1,4 @@
+pub mod HexTables
 pub mod HexTurns
 pub mod NumberLaws
 pub mod NumberTurns

@@ -6,6 +6,11 @@ use mathlib.Core.Option.{Option, none, some}
 use lib.Dec.{eqb, leb, ltb}
 use lib.ListN.{length, take, drop}
 use Rattle.lists.specs.Bytes.{Bytes, eqBytes}
+use Rattle.lists.specs.Lists.{numbersFrom}
+
+-- every byte once, from 0 on
+abbrev pub everyByte : Bytes
+everyByte = numbersFrom 0 256
 
 -- the value of a hex digit of either case; 16 where the byte is no digit
 unfoldable pub hexValue : ℕ → ℕ
