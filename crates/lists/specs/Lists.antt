@@ -1,4 +1,4 @@
--- Lists: what passes a test, what holds of every element or of every two, and a list written to the front of a slice.
+-- Lists: what passes a test, what holds of every element or of every two, a list written to a slice, and numbers one after another.
 use Prim.Native.Nat.{ℕ, zero, suc}
 use mathlib.Core.Bool.{Bool, true, false, _&&_, _||_, cond}
 use mathlib.Core.List.{List, [], _∷_, _++_}
