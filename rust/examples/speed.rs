@@ -1,4 +1,4 @@
-//! How fast the fold and the writers are: bytes and records a second of each journal, and bytes a second of each writer beside
+//! How fast the fold and the writers are: bytes and records a second of journals, and bytes a second of each writer beside
 //! a plain copy of its record. Each is the fastest of nine runs.
 
 mod sample;
@@ -11,12 +11,23 @@ use sample::park;
 use std::hint::black_box;
 use std::time::Instant;
 
-fn text_of(key: u8) -> String {
-    format!("0x{}", format!("{key:02x}").repeat(32))
+/// The hash of a key: bytes without a pattern, as a feed's hashes have.
+fn hash_of(key: u64) -> [u8; 32] {
+    let mut x = (key + 1).wrapping_mul(0x9e37_79b9_7f4a_7c15);
+    std::array::from_fn(|_| {
+        x ^= x << 13;
+        x ^= x >> 7;
+        x ^= x << 17;
+        (x >> 32) as u8
+    })
 }
 
-fn resolve(key: u8) -> ResolveRecord {
-    ResolveRecord { version: 2, hash: [key; 32], resolution: Resolution::MinedFinalized, resolved_at: 0 }
+fn text_of(key: u64) -> String {
+    format!("0x{}", hash_of(key).map(|byte| format!("{byte:02x}")).concat())
+}
+
+fn resolve(key: u64) -> ResolveRecord {
+    ResolveRecord { version: 2, hash: hash_of(key), resolution: Resolution::MinedFinalized, resolved_at: 0 }
 }
 
 const CONSUMED: TentativeRecord =
@@ -61,14 +72,18 @@ fn bytes(length: usize, write: impl FnOnce(&mut [u8]) -> Result<usize, Refusal>)
     record
 }
 
-fn tell_fold(name: &str, records: &[Vec<u8>]) {
-    let journal = records.concat();
+/// Folds journals one after another.
+fn tell_fold(name: &str, journals: &[Vec<Vec<u8>>]) {
+    let whole: Vec<_> = journals.iter().map(|records| records.concat()).collect();
     let mut out = [0u8; ENOUGH];
     let best = fastest(50, || {
-        fold(&journal, &mut out).expect("the journal folds");
+        for journal in &whole {
+            fold(journal, &mut out).expect("the journal folds");
+        }
     });
-    let (bytes, count) = (journal.len() as f64, records.len() as f64);
-    println!("{name}: {:.0} MB/s, {:.2} million records/s", bytes / best / 1e6, count / best / 1e6);
+    let bytes: usize = whole.iter().map(Vec::len).sum();
+    let count: usize = journals.iter().map(Vec::len).sum();
+    println!("{name}: {:.0} MB/s, {:.2} million records/s", bytes as f64 / best / 1e6, count as f64 / best / 1e6);
 }
 
 /// Fills 64 KiB with records, each written with its own number, and then with copies of one of them.
@@ -95,16 +110,19 @@ fn tell_folds() {
     let park_of = |key| bytes(PARK, |out| park(text_of(key).as_bytes()).write(out));
     let resolve_of = |key| bytes(RESOLVE, |out| resolve(key).write(out));
     let other = bytes(OTHER, |out| OtherRecord { ticket: 5 }.write(out));
-    let parks: Vec<_> = (0..273).map(|i| park_of((i % 64) as u8 + 1)).collect();
-    let in_turn = |i: usize| match i % 3 {
-        0 => park_of(i as u8 % 64),
-        1 => resolve_of(i as u8 % 64),
+    let parks: Vec<_> = (0..273).map(|i| park_of(i % 64)).collect();
+    let in_turn = |i: u64| match i % 3 {
+        0 => park_of(i % 64),
+        1 => resolve_of(i % 64),
         _ => other.clone(),
     };
     let mixed: Vec<_> = (0..500).map(in_turn).collect();
-    tell_fold("273 QP, 64 keys", &parks);
-    tell_fold("6,553 QX", &vec![other; 6553]);
-    tell_fold("QP, QR and QX in turn", &mixed);
+    let feed = |first: u64| (first..first + 228).flat_map(|key| [park_of(key), resolve_of(key)]).collect();
+    let feeds: Vec<_> = (0..64).map(|i| feed(228 * i)).collect();
+    tell_fold("273 QP, 64 keys", &[parks]);
+    tell_fold("6,553 QX", &[vec![other; 6553]]);
+    tell_fold("QP, QR and QX in turn", &[mixed]);
+    tell_fold("64 journals of QP and its QR in turn, no hash twice", &feeds);
 }
 
 fn tell_writers() {

@@ -192,7 +192,7 @@ fn main() {
     let scratch = Scratch::new();
     let linked = ours();
     let linked = linked.as_deref();
-    fold("all marks but QX", |r| !matches!(r, Record::Other(_)), &scratch, linked);
+    fold("all marks", |_| true, &scratch, linked);
     fold("QP only", |r| matches!(r, Record::Park(_)), &scratch, linked);
     fold("QT and QR", |r| matches!(r, Record::Tentative(_) | Record::Resolve(_)), &scratch, linked);
     fold("QL only", |r| matches!(r, Record::Legacy(_)), &scratch, linked);
