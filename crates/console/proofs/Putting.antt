@@ -1,5 +1,5 @@
 -- What waits in a buffer after bytes and their count were written to it, and what a text does to it.
-use Prim.Native.Nat.{ℕ, _+_, _-_, _/_, _%_, _≤_, _<_, min}
+use Prim.Native.Nat.{ℕ, _+_, _-_, _≤_, _<_, min}
 use native.Mathlib.Numerals.{add-one}
 use native.Mathlib.Omega.{arith}
 use mathlib.Core.Path.{_≡_, refl, ap, sym, _∙_}
@@ -10,7 +10,7 @@ use borrow.Author.Tests.{le-leb, lt-leb}
 use Rattle.lists.specs.Bytes.{Bytes}
 use Rattle.lists.proofs.Pasting.{grown}
 use Rattle.wire.specs.Numbers.{num, digits}
-use Rattle.wire.specs.HashText.{hexDigit}
+use Rattle.wire.specs.HashText.{hexPair}
 use Rattle.wire.proofs.NumberLaws.{length-digits, num-digits}
 use Rattle.console.specs.Lines.{counted}
 use Rattle.console.specs.Waiting.{count, waits, behind, allBehind, pairs}
@@ -60,7 +60,7 @@ unfolding waits count
 length-waits o l = length-take-le (count o) o (omega arith)
 
 -- a byte's two digits are put, and those of the others are left
-pub hex-turn : (bs w next p : Bytes) (i : ℕ) → i < length bs → p ≡ hexDigit (getD bs i 0 / 16) ∷ hexDigit (getD bs i 0 % 16) ∷ []
+pub hex-turn : (bs w next p : Bytes) (i : ℕ) → i < length bs → p ≡ hexPair (getD bs i 0)
     → next ≡ behind w p → allBehind next (pairs (drop (i + 1) bs)) ≡ allBehind w (pairs (drop i bs))
 unfolding allBehind pairs
 hex-turn bs w next p i h e f = rw (drop-cons bs i 0 h, f, e, add-one i)

@@ -1,13 +1,13 @@
 -- A buffer: 4,096 bytes, and behind them, as u16, how many of them wait to be written. What is written is no part of the logic, and what
 -- waits is: after texts were put, one by one, and where they are numbers and bytes as digits.
-use Prim.Native.Nat.{ℕ, zero, suc, _-_, _/_, _%_, min}
+use Prim.Native.Nat.{ℕ, zero, suc, _-_, _/_, min}
 use mathlib.Core.Bool.{cond}
 use mathlib.Core.List.{List, [], _∷_, _++_}
 use lib.Dec.{leb, ltb}
 use lib.ListN.{length, take, drop}
 use Rattle.lists.specs.Bytes.{Bytes}
 use Rattle.wire.specs.Numbers.{num}
-use Rattle.wire.specs.HashText.{hexDigit}
+use Rattle.wire.specs.HashText.{hexPair}
 use Rattle.io.specs.Digits.{digits}
 
 -- how many bytes of a buffer wait
@@ -39,4 +39,4 @@ decimal n = digits 10 (places 19 n) n
 -- the two lowercase hex digits of each byte
 unfoldable pub pairs : Bytes → List Bytes
 pairs [] = []
-pairs (b ∷ bs) = (hexDigit (b / 16) ∷ hexDigit (b % 16) ∷ []) ∷ pairs bs
+pairs (b ∷ bs) = hexPair b ∷ pairs bs

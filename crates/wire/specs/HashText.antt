@@ -26,6 +26,10 @@ hexValue b =
 unfoldable pub hexDigit : ℕ → ℕ
 hexDigit n = cond (ltb n 10) (48 + n) (87 + n)
 
+-- a byte's two lowercase digits
+abbrev pub hexPair : ℕ → Bytes
+hexPair b = hexDigit (b / 16) ∷ hexDigit (b % 16) ∷ []
+
 -- two lowercase digits a byte
 unfoldable pub hexText : Bytes → Bytes
 hexText [] = []
