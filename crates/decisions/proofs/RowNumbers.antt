@@ -69,39 +69,3 @@ module _ (t : Telling) (head : ℕ) (known : List ℕ) (f : Frame) (at decision 
       after ≡ writtenAt at (f .ticket ∷ decision ∷ f .expected ∷ mark ∷ count ∷ []) out → after ≡ writtenAt at (rowNumbers short (rowOf t head known f)) out
   unfolding rowNumbers
   short-row mark count after m c w = w ∙ rw (d, c, m)
-
--- ---- a poll gives at most one row for each entry of the sender
-
-one-row : (head : ℕ) (known : List ℕ) (guarded : Bool) (e : Entry) (v : Visit Row) → PollCase head known guarded e v → length (v .lists) ≤ 1
-unfolding stay leave row
-one-row head known guarded e v (silent t) = omega arith
-one-row head known guarded e v (consumed t y) = omega arith
-one-row head known guarded e v (holds t y x z) = omega arith
-one-row head known guarded e v (hold t y x z) = omega arith
-one-row head known guarded e v (waits t y x u) = omega arith
-one-row head known guarded e v (heldBack t y x u g) = omega arith
-one-row head known guarded e v (rescued t y x u g) = omega arith
-
-polled-once : (head : ℕ) (known : List ℕ) (content : Option Content) (g : Option Guard) (e : Entry) → length (pollRule head known content g e .lists) ≤ 1
-unfolding pollRule
-polled-once head known content g e =
-    let m : Bool = guardMatches g (predecessors head (e .frame)) (e .frame .expected) content in
-    one-row head known m e _ (poll-case head known m e)
-
-pub few-rows : (sender : Bytes) (head : ℕ) (known : List ℕ) (content : Option Content) (es : List Entry) (gs : List Guard) →
-    length (walk (onlyOf sender (pollRule head known content)) es gs .listed) ≤ length (entriesOf sender es)
-unfolding walk onlyOf entriesOf keep stay
-few-rows sender head known content [] gs = omega arith
-few-rows sender head known content (e ∷ es) gs = go (eqBytes (e .frame .from) sender) (λ gs′. few-rows sender head known content es gs′)
-  where
-    go : (b : Bool) → ((gs′ : List Guard) → length (walk (onlyOf sender (pollRule head known content)) es gs′ .listed) ≤ length (keep (λ x. eqBytes (x .frame .from) sender) es)) →
-        length
-        (cond b (pollRule head known content (guardOf (e .frame .hash) gs) e) (stay (e .standing) []) .lists
-        ++ walk (onlyOf sender (pollRule head known content)) es
-        (cond (cond b (pollRule head known content (guardOf (e .frame .hash) gs) e) (stay (e .standing) []) .drops) (dropGuard (e .frame .hash) gs) gs)
-        .listed)
-        ≤ length (cond b (e ∷ keep (λ x. eqBytes (x .frame .from) sender) es) (keep (λ x. eqBytes (x .frame .from) sender) es))
-    go true ih =
-        let v : Visit Row = pollRule head known content (guardOf (e .frame .hash) gs) e in
-        rw length-append (omega (arith, polled-once head known content (guardOf (e .frame .hash) gs) e, ih (cond (v .drops) (dropGuard (e .frame .hash) gs) gs)))
-    go false ih = ih gs

@@ -1,9 +1,6 @@
-pub mod Counting
 pub mod EnterSteps
 pub mod PassSteps
 pub mod PassTurns
-pub mod PollSteps
-pub mod PollTurns
 pub mod PushSteps
 pub mod RecordSteps
 pub mod Whole

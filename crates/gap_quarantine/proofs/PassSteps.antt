@@ -19,14 +19,15 @@ use Rattle.store_rules.specs.View.{entriesSeen, hashOf, guardsSeen, heldView, l
 use Rattle.store_rules.proofs.Walking.{Ends}
 use Rattle.decisions.specs.Selections.{callBy, callOf, selected, selectRule, deadOf, numberWidth, byteWidth, numbersFor, bytesFor}
 use Rattle.decisions.proofs.Selecting.{evict-selects, reorg-selects, final-selects, walk-map, select-count}
-use Rattle.gap_quarantine.specs.Contracts.{heard, answered, asked, HeldPerforms, Always}
+use Rattle.answers.specs.Contracts.{heard, asked, HeldPerforms, Always}
+use Rattle.gap_quarantine.specs.Contracts.{answered}
 use Rattle.store_rules.specs.declared.Entry as coded
 use Rattle.store_rules.specs.declared.Held.{Held}
 use Rattle.decisions.specs.declared.selection.Selection.{Selection}
 use Rattle.decisions.specs.declared.selection.Selecting.{Selecting}
 use Rattle.decisions.specs.declared.selection.Selecting.the-variants.{OfSender, Reorganised, Finalized}
-use Rattle.gap_quarantine.specs.declared.Answer.the-variants.{Refused}
-use Rattle.gap_quarantine.specs.declared.Outcome.{Outcome}
+use Rattle.answers.specs.declared.Answer.the-variants.{Refused}
+use Rattle.answers.specs.declared.Outcome.{Outcome}
 
 -- ---- the step of a selection
 

@@ -19,7 +19,8 @@ use Rattle.store_rules.specs.Store.{dropGuard}
 use Rattle.store_rules.proofs.InPlace.{Going, start, silent, one-left, number-room, byte-room, kept, left, done}
 use Rattle.decisions.specs.Selections.{callOf, ends, selected, selectRule, revived, listedAs, staysAs, isTentative, numberWidth, byteWidth, numbersFor, bytesFor}
 use Rattle.decisions.proofs.Selecting.{select-count, numbers-width, Lists}
-use Rattle.gap_quarantine.specs.Contracts.{answered, Always}
+use Rattle.answers.specs.Contracts.{Always}
+use Rattle.gap_quarantine.specs.Contracts.{answered}
 use Rattle.gap_quarantine.proofs.PassSteps.{passed}
 use Rattle.store_rules.specs.declared.Entry as coded
 use Rattle.store_rules.specs.declared.Held.{Held}

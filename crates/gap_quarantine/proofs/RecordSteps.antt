@@ -16,7 +16,7 @@ use Rattle.guards.specs.Recording.{Records}
 use Rattle.guards.specs.declared.Recording.{Recording}
 use Rattle.guards.specs.declared.Recording.the-variants.{Places, Full}
 use Rattle.gap_quarantine.specs.Contracts.{Writes}
-use Rattle.gap_quarantine.specs.declared.Answer.the-variants.{Recorded, Refused}
+use Rattle.answers.specs.declared.Answer.the-variants.{Recorded, Refused}
 
 module _ (h : Held) (numbers : List ℕ) (contents : Bytes) (g : Guard) where
   pub many-preds : 16 < length (g .predecessors) → Writes h numbers contents (guard g) (record { answer = Refused ManyPredecessors; held = h }) numbers contents

@@ -6,10 +6,11 @@ use Rattle.store_rules.specs.Store.{Call, RowForm}
 use Rattle.store_rules.specs.Answers.{Said}
 use Rattle.store_rules.specs.View.{bodiesOf, heldView}
 use Rattle.store_rules.specs.declared.Held.{Held}
-use Rattle.gap_quarantine.specs.Contracts.{Steps, viewOf, joined, PerformsIn, HeldPerformsIn}
+use Rattle.answers.specs.Contracts.{Steps, HeldPerformsIn}
+use Rattle.gap_quarantine.specs.Contracts.{viewOf, joined, PerformsIn}
 use Rattle.gap_quarantine.specs.declared.Quarantine.{Quarantine}
 use Rattle.gap_quarantine.specs.declared.Answered.{Answered}
-use Rattle.gap_quarantine.specs.declared.Outcome.{Outcome}
+use Rattle.answers.specs.declared.Outcome.{Outcome}
 
 module _ (form : RowForm) (q : Quarantine) (call : Call) (numbers bytes numbers′ bytes′ : List ℕ) where
   pub whole-steps : (a : Said) (h : Held) → Steps (heldView (bodiesOf (q .«guard_numbers») (q .«guard_contents»))) form (q .held) call numbers bytes a h numbers′ bytes′ →

@@ -15,24 +15,24 @@ ghost use Rattle.store_rules.specs.Frames.{reparked, unhydratable};
 ghost use Rattle.store_rules.specs.Store.{empty, push, poll, short, guard, evictSender, checkReorg, checkFinalized};
 ghost use Rattle.store_rules.specs.View.{consumedOf, frameOf, kindOf, contentOf, hashOf};
 ghost use Rattle.gap_quarantine.specs.Contracts.{viewOf, Performs, PerformsIn, Enters};
-use refusal::Refusal;
 
 mod entering; // entering.rt: entering the tentative state
 mod parking; // parking.rt: push
 mod passing; // passing.rt: eviction, reorganisation and finality
-mod polling; // polling.rt: the polls
 mod reads; // reads.rt: the calls that only read
 mod recording; // recording.rt: the guard calls
 
+pub use answers::Answer;
+pub use answers::Outcome;
 pub use entering::enter_tentative;
 pub use parking::push;
 pub use passing::check_finalized;
 pub use passing::check_reorg;
 pub use passing::evict_sender;
-pub use polling::poll;
-pub use polling::poll_short;
-pub use polling::poll_short_with_content;
-pub use polling::poll_with_content;
+pub use polls::poll;
+pub use polls::poll_short;
+pub use polls::poll_short_with_content;
+pub use polls::poll_with_content;
 pub use queries::Boundary;
 pub use queries::HeldState;
 pub use queries::Listed;
@@ -62,45 +62,22 @@ pub use store_rules::Whose;
 
 // ---- answers
 
-// What a call answers: each its own case, or a refusal. Entering answers whose the frame is that entered (`Whose`).
-pub enum Answer {
-    // the frames held after a push
-    Total(usize),
-    // the rows of a poll, each of 19 numbers
-    Rows(usize),
-    // the short rows of a poll, each of five
-    ShortRows(usize),
-    // a guard was recorded
-    Recorded,
-    // the frames that an eviction or a reorganisation lists
-    Frames(usize),
-    // the frames that finality ends
-    Dead(usize),
-    Refused(Refusal),
-}
-
-// An answer, and the held part after the call.
-pub struct Outcome {
-    pub answer: Answer,
-    pub held: Held,
-}
-
-// An answer, and the store after the call.
+// The store after a call, and the answer.
 pub struct Answered {
+    pub store: Quarantine,
     pub answer: Answer,
-    pub store: Quarantine,
 }
 
-// Whose the frame is that entered the tentative state, if one was found, and the held part after the call.
+// The held part after a call, and whose the frame is that entered the tentative state, if one was found.
 pub struct Entered {
-    pub whose: Whose,
     pub held: Held,
+    pub whose: Whose,
 }
 
-// The same, and the store after the call.
+// The same with the store after the call.
 pub struct EnteredStore {
-    pub whose: Whose,
     pub store: Quarantine,
+    pub whose: Whose,
 }
 
 // ---- the store as one value

@@ -1,5 +1,6 @@
--- Lists: what passes a test, what holds of every element or of every two, a list written to a slice, and numbers one after another.
-use Prim.Native.Nat.{ℕ, zero, suc}
+-- Lists: what passes a test, what holds of every element or of every two, a list written to a slice, sums, and numbers one
+-- after another.
+use Prim.Native.Nat.{ℕ, zero, suc, _+_}
 use mathlib.Core.Bool.{Bool, true, false, _&&_, _||_, cond}
 use mathlib.Core.List.{List, [], _∷_, _++_}
 use lib.Dec.{eqb}
@@ -34,6 +35,10 @@ every (b ∷ bs) = b && every bs
 unfoldable pub collect : {A B : Type 0} → (A → List B) → List A → List B
 collect f [] = []
 collect f (x ∷ xs) = f x ++ collect f xs
+
+unfoldable pub sum : List ℕ → ℕ
+sum [] = 0
+sum (n ∷ ns) = n + sum ns
 
 -- a slice with the list at its front; what lies past it stays
 abbrev pub written : List ℕ → List ℕ → List ℕ

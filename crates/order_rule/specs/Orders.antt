@@ -125,14 +125,67 @@ aboutRoom (refused n) = eqb n 2 || eqb n 5 || eqb n 8
 abbrev pub EnoughRoom : Store → List Request → Type 0
 EnoughRoom s qs = (c : Call) (a : Answer) → List·Memᴰ (c, a) (transcript s qs) → aboutRoom a ≡ false
 
+-- ---- sweeps among the calls (request 2027-05)
+
+-- nothing, if something is refused
+unfoldable pub unrefused : {A : Type 0} → Option ℕ → List A → List A
+unrefused none l = l
+unrefused (some n) l = []
+
+-- the calls that an item is read as: a sweep as its polls, and a sweep refused with 3, 17 or 18 as no call
+unfoldable pub callsOf : Item → List Call
+callsOf (single q) = q .call ∷ []
+callsOf (sweep w) = unrefused (sweepInputRefusal w) (pollsOf w)
+
+unfoldable pub callsRead : List Item → List Call
+callsRead = collect callsOf
+
+-- the same with the slices that the calls are lent, if the item comes upon this store
+unfoldable pub requestsOf : Store → Item → List Request
+requestsOf s (single q) = q ∷ []
+requestsOf s (sweep w) = unrefused (sweepInputRefusal w) (pollsIn s w)
+
+-- each call that is read in a run, with what it answers
+unfoldable pub transcriptRead : Store → List Item → List (Call × Answer)
+transcriptRead s [] = []
+transcriptRead s (i ∷ is) = transcript s (requestsOf s i) ++ transcriptRead (stepItem s i .0) is
+
+-- the premise on room: no call and no sweep of this run is refused with 2, 5 or 8
+abbrev pub RoomFor : Store → List Item → Type 0
+RoomFor s [] = Unit {0}
+RoomFor s (i ∷ is) = (aboutRoom (stepItem s i .1) ≡ false) × RoomFor (stepItem s i .0) is
+
 -- ---- the rule
 
--- The lists are two orders of the same calls, as the condition says; no frame hash is pushed by two senders; no call of either
--- run is refused for want of room, whatever slices it is lent. Then the stores found afterwards are equal, and the transcripts
--- meet the same condition: calls in the same place have the same answers. Both runs begin from the store `s`, in which each
--- entry counts as pushed by its sender before the calls.
+-- The lists are two orders of the same calls, as the condition says; no frame hash is pushed by two senders; no call or sweep of
+-- either run is refused for want of room, whatever slices it is lent. Then the stores found afterwards are equal, and the
+-- transcripts meet the same condition: calls in the same place, the polls of sweeps among them, have the same answers. Both runs
+-- begin from the store `s`, in which each entry counts as pushed by its sender before the calls.
 abbrev pub OrderRuleFrom : Store → Type 0
 OrderRuleFrom s =
+    (xs ys : List Item) →
+    TwoOrders (keyBy (ownerIn (pushesOf (s .entries) ++ callsRead xs))) (callsRead xs) (callsRead ys) →
+    OneSender (pushesOf (s .entries) ++ callsRead xs) →
+    RoomFor s xs →
+    RoomFor s ys →
+    SameStore (runItems s xs) (runItems s ys)
+    × TwoOrders (λ (t : Call × Answer). keyBy (ownerIn (pushesOf (s .entries) ++ callsRead xs)) (t .0)) (transcriptRead s xs) (transcriptRead s ys)
+
+-- Demand 3: from an empty store. The owners are read from the first list; the second gives the same ones (`same-owner`).
+abbrev pub OrderRule : Type 0
+OrderRule =
+    (xs ys : List Item) →
+    TwoOrders (keyBy (ownerIn (callsRead xs))) (callsRead xs) (callsRead ys) →
+    OneSender (callsRead xs) →
+    RoomFor empty xs →
+    RoomFor empty ys →
+    SameStore (runItems empty xs) (runItems empty ys)
+    × TwoOrders (λ (t : Call × Answer). keyBy (ownerIn (callsRead xs)) (t .0)) (transcriptRead empty xs) (transcriptRead empty ys)
+
+-- ---- the same of lists without sweeps
+
+abbrev pub PlainRuleFrom : Store → Type 0
+PlainRuleFrom s =
     (xs ys : List Request) →
     TwoOrders (keyBy (ownerIn (pushesOf (s .entries) ++ calls xs))) (calls xs) (calls ys) →
     OneSender (pushesOf (s .entries) ++ calls xs) →
@@ -141,13 +194,6 @@ OrderRuleFrom s =
     SameStore (run s xs) (run s ys)
     × TwoOrders (λ (t : Call × Answer). keyBy (ownerIn (pushesOf (s .entries) ++ calls xs)) (t .0)) (transcript s xs) (transcript s ys)
 
--- Demand 3: from an empty store. The owners are read from the first list; the second gives the same ones (`same-owner`).
-abbrev pub OrderRule : Type 0
-OrderRule =
-    (xs ys : List Request) →
-    TwoOrders (keyBy (ownerIn (calls xs))) (calls xs) (calls ys) →
-    OneSender (calls xs) →
-    EnoughRoom empty xs →
-    EnoughRoom empty ys →
-    SameStore (run empty xs) (run empty ys)
-    × TwoOrders (λ (t : Call × Answer). keyBy (ownerIn (calls xs)) (t .0)) (transcript empty xs) (transcript empty ys)
+-- it is the rule's special case
+abbrev pub PlainIsSpecial : Type 0
+PlainIsSpecial = (s : Store) → OrderRuleFrom s → PlainRuleFrom s

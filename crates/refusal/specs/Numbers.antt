@@ -1,7 +1,7 @@
--- Document 01's number of each refusal.
+-- The number of each refusal: document 01's, and those of request 2027-05.
 use Prim.Native.Nat.{ℕ}
 use Rattle.refusal.specs.declared.Refusal.{Refusal}
-use Rattle.refusal.specs.declared.Refusal.the-variants.{WideGap, StoreFull, ManyKnown, BadContent, ShortSlice, ManyPredecessors, BadGuardContent, GuardsFull, LongJournal, UnknownMark, BadRecord, PendingFull, ShortOutput, BadHashText, NoSender, NoWire}
+use Rattle.refusal.specs.declared.Refusal.the-variants.{WideGap, StoreFull, ManyKnown, BadContent, ShortSlice, ManyPredecessors, BadGuardContent, GuardsFull, LongJournal, UnknownMark, BadRecord, PendingFull, ShortOutput, BadHashText, NoSender, NoWire, BadSweepLists, BadNonceCounts}
 
 abbrev pub refusalNumber : Refusal → ℕ
 refusalNumber WideGap = 1
@@ -20,3 +20,5 @@ refusalNumber ShortOutput = 13
 refusalNumber BadHashText = 14
 refusalNumber NoSender = 15
 refusalNumber NoWire = 16
+refusalNumber BadSweepLists = 17
+refusalNumber BadNonceCounts = 18

@@ -1,4 +1,4 @@
-// The sixteen refusals, and document 01's number of each.
+// The eighteen refusals, and the number of each: document 01's sixteen, and those of request 2027-05.
 ghost use mathlib.Core.Path.{_≡_};
 ghost use Rattle.refusal.specs.Numbers.{refusalNumber};
 
@@ -25,9 +25,13 @@ pub enum Refusal {
     BadHashText,
     NoSender,
     NoWire,
+    // sweep: over 64 senders, sender bytes not 20 times the heads, or heads and counts of unequal length; counts not summing to
+    // the nonce list's length
+    BadSweepLists,
+    BadNonceCounts,
 }
 
-// Document 01's number.
+// Its number.
 pub fn number(r: Refusal) -> u64
     ensures { λ n. ⌜ n ≡ refusalNumber r ⌝ }
 {
@@ -48,5 +52,7 @@ pub fn number(r: Refusal) -> u64
         Refusal::BadHashText => 14,
         Refusal::NoSender => 15,
         Refusal::NoWire => 16,
+        Refusal::BadSweepLists => 17,
+        Refusal::BadNonceCounts => 18,
     }
 }

@@ -5,7 +5,7 @@ use mathlib.Core.List.{List}
 use lib.ListN.{length}
 use Rattle.store_rules.specs.Store.{Store, Call, RowForm, long}
 use Rattle.store_rules.specs.Answers.{Said}
-use Rattle.gap_quarantine.specs.Contracts.{Steps}
+use Rattle.answers.specs.Contracts.{Steps}
 use Rattle.store_bench.specs.Loads.{counted, toldIn, Goes}
 
 module _ {S : Type 0} {view : S → Store} {q q′ : S} {call : Call} {numbers bytes numbers′ bytes′ : List ℕ} {a : Said} where

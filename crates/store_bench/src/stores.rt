@@ -2,7 +2,7 @@
 ghost use mathlib.Core.Path.{_≡_};
 ghost use Prim.Native.Nat.{min};
 ghost use Rattle.store_rules.specs.View.{frameOf, Bodies, bodiesOf, heldView};
-ghost use Rattle.gap_quarantine.specs.Contracts.{heard};
+ghost use Rattle.answers.specs.Contracts.{heard};
 ghost use Rattle.store_bench.specs.Loads.{hashAt, frame, mining, after, pushed, guardedBy, sized, counted};
 use gap_quarantine::Answer;
 use gap_quarantine::Held;

@@ -11,7 +11,7 @@ use Rattle.short_rows.specs.Mark.{bit, markedNonces}
 use Rattle.short_rows.specs.Reading.{isNonce, noncesRead}
 use Rattle.store_rules.specs.Frames.{nonceConsumed, Row}
 use Rattle.store_rules.specs.Poll.{Content}
-use Rattle.store_rules.specs.Store.{Store, poll, RowForm, long, short, rowWidth, Request, Answer, total, rows, recorded, entered, frames, dead, refused, listed, refusal, step}
+use Rattle.store_rules.specs.Store.{Store, poll, RowForm, long, short, rowWidth, Request, Answer, listed, rowsOf, refusal, step}
 use Rattle.store_rules.specs.Answers.{rowNumbers, numbersOf}
 
 -- ---- what a short row says
@@ -34,16 +34,6 @@ pub record Says (r : Row) : Type 0 where
   pub consumed : r .decision ≡ nonceConsumed → markIn r ≡ 0
   -- of a frame whose claim is a nonce, what is read from the short row is what the long row lists
   pub nonces : isNonce (r .frame .claim) ≡ true → noncesRead (r .frame .expected) (markIn r) ≡ r .nonces
-
--- the rows that an answer tells of
-unfoldable pub rowsOf : Answer → List Row
-rowsOf (total n) = []
-rowsOf (rows l) = l
-rowsOf recorded = []
-rowsOf (entered w) = []
-rowsOf (frames l) = []
-rowsOf (dead l) = []
-rowsOf (refused n) = []
 
 -- of every store, also of one that no calls lead to
 abbrev pub EveryShortRow : Type 0

@@ -1,8 +1,10 @@
+pub mod Counting
 pub mod GapNonces
 pub mod InPlace
 pub mod Lookups
 pub mod Matches
 pub mod PollCases
+pub mod PollRows
 pub mod RowForms
 pub mod Searches
 pub mod Seen

@@ -4,6 +4,7 @@ pub mod Rules
 pub mod Lookup
 pub mod Store
 pub mod Answers
+pub mod Sweeps
 pub mod View
 pub mod Searching
 pub mod Listing

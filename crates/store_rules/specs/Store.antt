@@ -186,6 +186,16 @@ listed (frames l) = length l
 listed (dead l) = length l
 listed (refused n) = 0
 
+-- the rows that it tells of
+unfoldable pub rowsOf : Answer → List Row
+rowsOf (total n) = []
+rowsOf (rows l) = l
+rowsOf recorded = []
+rowsOf (entered w) = []
+rowsOf (frames l) = []
+rowsOf (dead l) = []
+rowsOf (refused n) = []
+
 -- with so much room for numbers, and for bytes: finality takes 3 numbers and 64 bytes a frame, the others a number
 unfoldable pub roomRefusal : Store → Call → RowForm → ℕ → ℕ → Option ℕ
 roomRefusal s (push f) form numbers bytes = when (leb 64 (length (s .entries))) 2

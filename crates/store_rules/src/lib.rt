@@ -211,10 +211,13 @@ pub fn same_hash(a: [u8; 32], b: [u8; 32]) -> bool
     lists::same_bytes(&a[..], &b[..])
 }
 
-// Whether two addresses are the same.
+// Whether two addresses are the same. Those of two senders mostly differ in the first byte.
 pub fn same_address(a: [u8; 20], b: [u8; 20]) -> bool
     ensures { λ r. ⌜ r ≡ eqBytes a b ⌝ }
 {
+    if a[0] != b[0] {
+        return false;
+    }
     lists::same_bytes(&a[..], &b[..])
 }
 

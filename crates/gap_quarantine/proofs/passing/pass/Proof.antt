@@ -8,7 +8,7 @@ use Rattle.lists.proofs.Compacting.{clamp, long}
 use Rattle.store_rules.specs.Frames.{Entry}
 use Rattle.store_rules.specs.View.{entriesSeen}
 use Rattle.decisions.specs.Selections.{selected, isTentative}
-use Rattle.gap_quarantine.proofs.Counting.{countLeft, count-hit, count-miss, count-none}
+use Rattle.store_rules.proofs.Counting.{countLeft, count-hit, count-miss, count-none}
 use Rattle.gap_quarantine.proofs.PassSteps.{short, has-room}
 use Rattle.gap_quarantine.proofs.PassTurns.{Passing, begins, takes-tentative, skipped, room, revived-one, left-one, passes}
 use borrow.Author.Needs.{needs}

@@ -1,0 +1,39 @@
+-- What the contracts of the polls and of the sweep speak of beside the definitions.
+use Prim.Native.Nat.{ℕ}
+use mathlib.Core.Path.{_≡_}
+use mathlib.Core.Bool.{Bool, true}
+use mathlib.Core.List.{List, []}
+use Rattle.lists.specs.Bytes.{Bytes}
+use Rattle.store_rules.specs.Store.{long}
+use Rattle.store_rules.specs.Sweeps.{Sweep, sweepEffect}
+use Rattle.store_rules.specs.View.{Bodies, bodiesOf, heldView}
+use Rattle.store_rules.specs.declared.Held.{Held}
+use Rattle.decisions.specs.declared.rows.RowForm.{RowForm}
+use Rattle.decisions.specs.declared.rows.RowForm.the-variants.{Long, Short}
+use Rattle.answers.specs.Contracts.{heard, Gives}
+use Rattle.answers.specs.declared.Answer.{Answer}
+use Rattle.answers.specs.declared.Answer.the-variants.{Total, Rows, ShortRows, Recorded, Frames, Dead, Refused}
+use Rattle.answers.specs.declared.Outcome.{Outcome}
+
+-- the bodies are those that lie in the arrays, if content came; without content no body is read
+abbrev pub Lent : Bool → List ℕ → Bytes → Bodies → Type 0
+Lent content numbers contents bodies = content ≡ true → bodies ≡ bodiesOf numbers contents
+
+-- what a poll that wrote so many rows answers
+abbrev pub rowsIn : RowForm → ℕ → Answer
+rowsIn Long n = Rows n
+rowsIn Short n = ShortRows n
+
+-- how many rows of 19 numbers an answer tells of
+abbrev pub rowsTold : Answer → ℕ
+rowsTold (Total n) = 0
+rowsTold (Rows n) = n
+rowsTold (ShortRows n) = 0
+rowsTold Recorded = 0
+rowsTold (Frames n) = 0
+rowsTold (Dead n) = 0
+rowsTold (Refused x) = 0
+
+-- the polls of a sweep, whatever the bodies are
+abbrev pub PollsInTurn : Held → Sweep → List ℕ → Outcome → List ℕ → Type 0
+PollsInTurn h w numbers r numbers′ = (bodies : Bodies) → Gives (heldView bodies) long h (sweepEffect (heldView bodies h) w) numbers [] (heard (r .answer)) (r .held) numbers′ []
