@@ -6,13 +6,14 @@ use Rattle.lists.specs.Bytes.{Bytes, leBytes}
 use Rattle.store_rules.specs.Frames.{Consumed}
 use Rattle.store_rules.specs.Store.{Store, Call, enterTentative, RowForm, long}
 use Rattle.store_rules.specs.Answers.{Said, saysEntered}
+use Rattle.store_rules.specs.Sweeps.{Sweep}
 use Rattle.store_rules.specs.View.{Bodies, bodiesOf, heldView}
 use Rattle.store_rules.specs.declared.Entry.{Entry}
 use Rattle.store_rules.specs.declared.Held.{Held}
 use Rattle.store_rules.specs.declared.lookup.Whose.{Whose}
 use Rattle.decisions.specs.declared.selection.Selecting.{Selecting}
 use Rattle.decisions.specs.declared.selection.Selecting.the-variants.{OfSender, Reorganised, Finalized}
-use Rattle.answers.specs.Contracts.{heard, Steps}
+use Rattle.answers.specs.Contracts.{heard, Steps, SweepSteps}
 use Rattle.answers.specs.declared.Answer.{Answer}
 use Rattle.answers.specs.declared.Answer.the-variants.{Frames, Dead}
 use Rattle.answers.specs.declared.Outcome.{Outcome}
@@ -37,6 +38,10 @@ PerformsIn form q call numbers bytes r = Steps viewOf form q call numbers bytes 
 -- as document 01 has it: a poll's rows are long
 abbrev pub Performs : Quarantine → Call → List ℕ → List ℕ → Answered → List ℕ → List ℕ → Type 0
 Performs = PerformsIn long
+
+-- a sweep
+abbrev pub SweepPerforms : Quarantine → Sweep → List ℕ → Answered → List ℕ → Type 0
+SweepPerforms q w numbers r = SweepSteps viewOf q w numbers (heard (r .answer)) (r .store)
 
 -- entering
 abbrev pub Enters : Quarantine → Bytes → Consumed → EnteredStore → Type 0

@@ -14,7 +14,8 @@ ghost use mathlib.Core.Option.{none};
 ghost use Rattle.store_rules.specs.Frames.{reparked, unhydratable};
 ghost use Rattle.store_rules.specs.Store.{empty, push, poll, short, guard, evictSender, checkReorg, checkFinalized};
 ghost use Rattle.store_rules.specs.View.{consumedOf, frameOf, kindOf, contentOf, hashOf};
-ghost use Rattle.gap_quarantine.specs.Contracts.{viewOf, Performs, PerformsIn, Enters};
+ghost use Rattle.answers.specs.Contracts.{askedSweep};
+ghost use Rattle.gap_quarantine.specs.Contracts.{viewOf, Performs, PerformsIn, SweepPerforms, Enters};
 
 mod entering; // entering.rt: entering the tentative state
 mod parking; // parking.rt: push
@@ -33,6 +34,7 @@ pub use polls::poll;
 pub use polls::poll_short;
 pub use polls::poll_short_with_content;
 pub use polls::poll_with_content;
+pub use polls::sweep;
 pub use queries::Boundary;
 pub use queries::HeldState;
 pub use queries::Listed;
@@ -199,6 +201,24 @@ impl Quarantine {
             hashes,
             rows,
         ))
+    }
+
+    // Polls each sender of a list in turn: senders of 20 bytes, their heads, how many of the nonces each takes, and the nonces. All
+    // rows go to the slice.
+    pub fn sweep(
+        self,
+        senders: &[u8],
+        heads: &[u64],
+        counts: &[u64],
+        nonces: &[u64],
+        rows: &mut [u64],
+    ) -> Answered
+        ensures { λ r. ⌜ SweepPerforms self
+            (askedSweep (now (senders .entry)) (now (heads .entry)) (now (counts .entry)) (now (nonces .entry)) (now (rows .entry)))
+            (now (rows .entry)) r (now (rows .exit)) ⌝ }
+    {
+        let held = self.held;
+        self.after(sweep(held, senders, heads, counts, nonces, rows))
     }
 
     // Records a guard of this kind.
