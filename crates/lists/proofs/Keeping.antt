@@ -1,8 +1,12 @@
 -- The laws of `keep` and `Each`.
+use Prim.Native.Nat.{ℕ, _+_, _≤_, _<_}
+use native.Mathlib.Numerals.{add-one}
 use mathlib.Core.Path.{_≡_, refl, sym, ap, _∙_}
 use mathlib.Core.Bool.{Bool, true, false, cond, false≢true}
 use mathlib.Core.List.{List, [], _∷_, _++_, List·Memᴰ, List·Memᴰ·head, List·Memᴰ·tail, List·Memᴰ·not-nil, List·Memᴰ·cases-cons}
 use mathlib.Core.Logic.{_⊎_, inl, inr}
+use lib.ListN.{length, drop, getD, drop-of-length-le}
+use lib.Seq.{drop-cons}
 use Rattle.lists.specs.Lists.{keep, Each}
 
 module _ {A : Type 0} where
@@ -13,6 +17,19 @@ module _ {A : Type 0} where
   pub keep-no : (p : A → Bool) (x : A) (xs : List A) → p x ≡ false → keep p (x ∷ xs) ≡ keep p xs
   unfolding keep
   keep-no p x xs h = rw h
+
+  -- what is kept of the elements that are left
+  module _ (p : A → Bool) (xs : List A) (i : ℕ) where
+    module _ (d : A) (h : i < length xs) where
+      pub rest-yes : p (getD xs i d) ≡ true → keep p (drop i xs) ≡ getD xs i d ∷ keep p (drop (i + 1) xs)
+      rest-yes t = rw (add-one, drop-cons xs i d) (keep-yes p (getD xs i d) _ t)
+
+      pub rest-no : p (getD xs i d) ≡ false → keep p (drop i xs) ≡ keep p (drop (i + 1) xs)
+      rest-no t = rw (add-one, drop-cons xs i d) (keep-no p (getD xs i d) _ t)
+
+    pub rest-end : length xs ≤ i → keep p (drop i xs) ≡ []
+    unfolding keep
+    rest-end h = rw (drop-of-length-le xs h)
 
   -- the same head, and tails of which the same is kept
   pub keep-cong : (p : A → Bool) (x : A) (xs ys : List A) → keep p xs ≡ keep p ys → keep p (x ∷ xs) ≡ keep p (x ∷ ys)

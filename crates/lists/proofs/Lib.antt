@@ -12,5 +12,6 @@ pub mod Pasting
 pub mod Same
 pub mod Searching
 pub mod Shifting
+pub mod Sums
 pub mod Turns
 pub mod Writing

@@ -1,5 +1,5 @@
 -- Laws of a loop that writes a list to the front of a slice, so many numbers for each element.
-use Prim.Native.Nat.{ℕ, _+_, _*_, _≤_, _<_}
+use Prim.Native.Nat.{ℕ, _+_, _*_, _-_, _≤_, _<_}
 use native.Mathlib.Nat.{mul-suc, mul-le-mul-left}
 use native.Mathlib.Numerals.{add-one}
 use native.Mathlib.Omega.{arith}
@@ -13,6 +13,12 @@ use Rattle.lists.specs.Lists.{collect, written, writtenAt}
 
 pub length-at : (at : ℕ) (l out : List ℕ) → at + length l ≤ length out → length (writtenAt at l out) ≡ length out
 length-at at l out h = simp (length-append, length-take, length-drop) (omega arith)
+
+-- what is written to the front of a slice, and leaves its length, fits it
+pub written-fits : (l slice after : List ℕ) → after ≡ written l slice → length after ≡ length slice → length l ≤ length slice
+written-fits l slice after e h =
+    let z : length (written l slice) ≡ length l + (length slice - length l) = simp (length-append, length-drop) in
+    omega (arith, ap length e)
 
 -- one number
 pub one-at : (out : List ℕ) (at v : ℕ) → at < length out → set out at v ≡ writtenAt at (v ∷ []) out

@@ -16,7 +16,7 @@ use Rattle.store_rules.specs.Poll.{Content, pollRule}
 use Rattle.store_rules.specs.Rules.{onlyOf}
 use Rattle.store_rules.specs.Lookup.{entriesOf}
 use Rattle.store_rules.specs.Store.{Call, poll, RowForm, rowWidth, walk, walked, effect, when, badContent, inputRefusal, roomRefusal, refusal, unless, step}
-use Rattle.store_rules.specs.Answers.{rowNumbers, numbersOf, bytesOf, saysRows, said}
+use Rattle.store_rules.specs.Answers.{rowNumbers, numbersOf, bytesOf, saysRows, saysRefused, said}
 use Rattle.store_rules.specs.View.{entriesSeen, guardsSeen, contentOf, labelsOf, liveOf, Bodies}
 use Rattle.store_rules.proofs.Walking.{Ends}
 use Rattle.answers.specs.Contracts.{heard, HeldPerformsIn}
@@ -28,6 +28,12 @@ use Rattle.answers.specs.declared.Answer.the-variants.{Refused}
 -- an entry of the sender
 abbrev pub isOf : Bytes → Entry → Bool
 isOf sender e = eqBytes (e .frame .from) sender
+
+-- ---- the answer
+
+-- rows are no refusal
+pub rows-not-refused : {form : RowForm} {n m : ℕ} → saysRows form n ≡ saysRefused m → ⊥
+rows-not-refused e = let z : _≡_ {A = ℕ} 0 1 = cc in omega arith
 
 -- ---- the content
 
@@ -80,5 +86,5 @@ module _ (form : RowForm) (bodies : Bodies) (q : Held) (sender : Bytes) (head : 
             answer = rw (t, good, s) (says ∙ ap (saysRows form) (count ∙ ap length (pass .listed)));
             numbersAfter = rw (t, good, s) (wrote ∙ rw (pass .listed));
             bytesAfter = rw (t, good, s);
-            kept = λ x e. absurd (let p = sym says ∙ e in let z : _≡_ {A = ℕ} 0 1 = cc in omega arith);
+            kept = λ x e. absurd (rows-not-refused (sym says ∙ e));
           }

@@ -9,8 +9,8 @@ ghost use Rattle.lists.specs.Bytes.{eqBytes};
 ghost use Rattle.lists.specs.Lists.{sum, keep, chunks};
 ghost use Rattle.store_rules.specs.Sweeps.{badLists, bigCount, listedEntries};
 ghost use Rattle.store_rules.specs.View.{entriesSeen};
-ghost use Rattle.answers.specs.Contracts.{askedSweep, SweepsAlways};
-ghost use Rattle.polls.specs.Contracts.{rowsTold, PollsInTurn};
+ghost use Rattle.answers.specs.Contracts.{heard, askedSweep, SweepsAlways};
+ghost use Rattle.polls.specs.Contracts.{rowsSaid, PollsInTurn};
 use super::polling::poll_inner;
 use answers::Answer;
 use answers::Outcome;
@@ -67,29 +67,37 @@ fn big_count(counts: &[u64]) -> bool
     false
 }
 
-// How many of the first n senders have this address.
+// Whether the sender at this place of the list has this address. Two addresses mostly differ in the first byte.
+fn is_listed_at(senders: &[u8], i: usize, address: [u8; 20]) -> bool
+    requires { ⌜ 20 * i + 20 ≤ length (now senders) ⌝ }
+    ensures { λ r. ⌜ r ≡ eqBytes address (take 20 (drop (20 * i) (now (senders .entry)))) ⌝ }
+{
+    let at = 20 * i;
+    if address[0] != senders[at] {
+        return false;
+    }
+    let end = at + 20;
+    lists::same_bytes(&address[..], &senders[at..end])
+}
+
+// How many of the n senders have this address.
 fn times_listed(senders: &[u8], n: usize, address: [u8; 20]) -> usize
     requires { ⌜ (length (now senders) ≡ 20 * n) × (n ≤ 64) ⌝ }
     ensures { λ r. ⌜ (r ≡ length (keep (λ a. eqBytes address a) (chunks 20 n (now (senders .entry))))) × (r ≤ 64) ⌝ }
 {
-    let first = address[0];
     let mut times = 0;
     let mut i = 0;
     while i < n {
-        let at = 20 * i;
-        let end = at + 20;
+        let here = i;
         i += 1;
-        // Two addresses mostly differ in the first byte.
-        if senders[at] == first {
-            if lists::same_bytes(&address[..], &senders[at..end]) {
-                times += 1;
-            }
+        if is_listed_at(senders, here, address) {
+            times += 1;
         }
     }
     times
 }
 
-// The entries of the first n senders; those of a sender listed twice count twice.
+// The entries of the n senders; those of a sender listed twice count twice.
 fn listed_entries(h: Held, senders: &[u8], n: usize) -> usize
     requires { ⌜ (length (now senders) ≡ 20 * n) × (n ≤ 64) ⌝ }
     ensures { λ r. ⌜ (r ≡ listedEntries (now (senders .entry)) n (entriesSeen h)) × (r ≤ 4096) ⌝ }
@@ -123,7 +131,7 @@ fn sender_at(senders: &[u8], i: usize) -> [u8; 20]
 
 // How many rows of 19 numbers an answer tells of.
 fn rows_of(answer: Answer) -> usize
-    ensures { λ r. ⌜ r ≡ rowsTold answer ⌝ }
+    ensures { λ r. ⌜ r ≡ rowsSaid (heard answer) ⌝ }
 {
     match answer {
         Answer::Total(_) => 0,

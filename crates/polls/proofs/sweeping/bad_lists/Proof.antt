@@ -1,24 +1,25 @@
+use mathlib.Core.Path.{_≡_, refl, sym}
+use native.Mathlib.Omega.{arith}
+use borrow.Author.Tests.{lt-ltb, le-ltb, eq-eqb, ne-eqb}
+use Rattle.store_rules.specs.Sweeps.{badLists}
 use borrow.Author.Needs.{needs}
 use Rattle.polls.proofs.sweeping.bad_lists.Statement.{statement}
 use Rattle.polls.proofs.sweeping.bad_lists.Tie as tie
-use Rattle.polls.proofs.sweeping.bad_lists.Reads as reads
-use Rattle.polls.proofs.sweeping.bad_lists.Lts as lts
 
--- src/sweeping.rt:30:9
 returns : tie.Need-returns
-returns c = ?
+unfolding badLists
+returns c = rw (lt-ltb _ _ (c .if1 .taken)) refl
 
--- src/sweeping.rt:32:17
 mul-bytes : tie.Need-mul-bytes
 mul-bytes c = search needs
 
--- src/sweeping.rt:34:9
 returns-2 : tie.Need-returns-2
-returns-2 c = ?
+unfolding badLists
+returns-2 c = rw (le-ltb _ _ ((c .before) .if1 .left), ne-eqb _ _ (c .if2 .taken)) refl
 
--- src/sweeping.rt:25:1
 returns-3 : tie.Need-returns-3
-returns-3 c = ?
+unfolding badLists
+returns-3 c = rw (le-ltb _ _ ((c .before) .if1 .left), eq-eqb _ _ (c .if2 .left)) refl
 
 pub bad-lists-spec : {M : Type 1} → statement M
 bad-lists-spec = tie.close (tie.spec returns mul-bytes returns-2 returns-3)

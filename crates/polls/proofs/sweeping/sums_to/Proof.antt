@@ -1,45 +1,43 @@
+use Prim.Native.Nat.{_-_, _≤_}
+use native.Mathlib.Omega.{arith}
+use mathlib.Core.Path.{_≡_, refl, sym, _∙_}
+use lib.Dec.{eqb}
+use lib.ListN.{length, drop}
+use Rattle.lists.specs.Lists.{sum}
+use Rattle.lists.proofs.Sums.{take-off, too-much, nothing-left}
+use borrow.Author.Needs.{needs}
 use Rattle.polls.proofs.sweeping.sums_to.Statement.{statement}
 use Rattle.polls.proofs.sweeping.sums_to.Tie as tie
-use Rattle.polls.proofs.sweeping.sums_to.Reads as reads
-use Rattle.polls.proofs.sweeping.sums_to.Lts as lts
 
 abbrev Inv-loop : tie.InvT-loop
-Inv-loop counts total left₀ i₀ left i = ?
+Inv-loop counts total left₀ i₀ left i = (i ≤ length counts) × (eqb (sum counts) total ≡ eqb (sum (drop i counts)) left)
 
 abbrev μ-loop : tie.MeasureT-loop
-μ-loop counts total left₀ i₀ left i = ?
+μ-loop counts total left₀ i₀ left i = length counts - i
 
--- src/sweeping.rt:45:5
 loop-holds : tie.Need-loop-holds Inv-loop μ-loop
-loop-holds c = ?
+loop-holds c = (search needs, refl)
 
--- src/sweeping.rt:46:17
 mul-n : tie.Need-mul-n Inv-loop μ-loop
-mul-n c = ?
+mul-n c = search needs
 
--- src/sweeping.rt:46:17
 shared-slice-read-n : tie.Need-shared-slice-read-n Inv-loop μ-loop
-shared-slice-read-n c = ?
+shared-slice-read-n c = search needs
 
--- src/sweeping.rt:47:9
 add-i : tie.Need-add-i Inv-loop μ-loop
-add-i c = ?
+add-i c = search needs
 
--- src/sweeping.rt:49:13
 returns : tie.Need-returns Inv-loop μ-loop
-returns c = ?
+returns c = let l = (c .before .before .before) .loop in sym (l .inv .1 ∙ too-much ((c .before .before .before .before) .args .counts .now) (l .i) (l .left) (omega arith) (omega arith))
 
--- src/sweeping.rt:45:5
 loop-less : tie.Need-loop-less Inv-loop μ-loop
-loop-less c = ?
+loop-less c = search needs
 
--- src/sweeping.rt:45:5
 loop-again : tie.Need-loop-again Inv-loop μ-loop
-loop-again c = ?
+loop-again c = let l = (c .before .before .before) .loop in (search needs, l .inv .1 ∙ take-off ((c .before .before .before .before) .args .counts .now) (l .i) (l .left) (omega arith) (omega arith))
 
--- src/sweeping.rt:40:1
 returns-2 : tie.Need-returns-2 Inv-loop μ-loop
-returns-2 c = ?
+returns-2 c = let l = (c .before) .loop in sym (l .inv .1 ∙ nothing-left ((c .before .before) .args .counts .now) (l .i) (l .left) (omega arith))
 
 pub sums-to-spec : {M : Type 1} → statement M
 sums-to-spec =

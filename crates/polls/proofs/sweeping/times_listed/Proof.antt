@@ -1,90 +1,54 @@
+use Prim.Native.Nat.{_+_, _-_, _≤_}
+use native.Mathlib.Omega.{arith}
+use mathlib.Core.Path.{_≡_, sym, _∙_}
+use Rattle.polls.proofs.ListedSenders.{timesLeft, time-more, no-time, times-end}
+use borrow.Author.Needs.{needs}
 use Rattle.polls.proofs.sweeping.times_listed.Statement.{statement}
 use Rattle.polls.proofs.sweeping.times_listed.Tie as tie
-use Rattle.polls.proofs.sweeping.times_listed.Reads as reads
-use Rattle.polls.proofs.sweeping.times_listed.Lts as lts
-use Rattle.lists.proofs.same_bytes.Reads as same-bytes-reads
 
 abbrev Inv-loop : tie.InvT-loop
-Inv-loop senders n address first times₀ i₀ times i = ?
+Inv-loop senders n address times₀ i₀ times i = (i ≤ n) × (times ≤ i) × (times + timesLeft senders n address i ≡ timesLeft senders n address 0)
 
 abbrev μ-loop : tie.MeasureT-loop
-μ-loop senders n address first times₀ i₀ times i = ?
+μ-loop senders n address times₀ i₀ times i = n - i
 
--- src/sweeping.rt:75:17
-array-read-first : tie.Need-array-read-first Inv-loop μ-loop
-array-read-first c = ?
-
--- src/sweeping.rt:78:5
 loop-holds : tie.Need-loop-holds Inv-loop μ-loop
-loop-holds c = ?
+loop-holds c = (search needs, search needs, omega arith)
 
--- src/sweeping.rt:79:18
-mul-at : tie.Need-mul-at Inv-loop μ-loop
-mul-at c = ?
-
--- src/sweeping.rt:80:19
-add-end : tie.Need-add-end Inv-loop μ-loop
-add-end c = ?
-
--- src/sweeping.rt:81:9
 add-i : tie.Need-add-i Inv-loop μ-loop
-add-i c = ?
+add-i c = search needs
 
--- src/sweeping.rt:83:12
-shared-slice-read-if1 : tie.Need-shared-slice-read-if1 Inv-loop μ-loop
-shared-slice-read-if1 c = ?
+is-listed-at-requires : tie.Need-is-listed-at-requires Inv-loop μ-loop
+is-listed-at-requires c κs = search needs
 
--- src/sweeping.rt:84:34
-slice-aggregate-same-bytes : tie.Need-slice-aggregate-same-bytes Inv-loop μ-loop
-slice-aggregate-same-bytes c = ?
-
--- src/sweeping.rt:84:48
-sub-same-bytes : tie.Need-sub-same-bytes Inv-loop μ-loop
-sub-same-bytes c = ?
-
--- src/sweeping.rt:84:48
-part-same-bytes-start : tie.Need-part-same-bytes-start Inv-loop μ-loop
-part-same-bytes-start c = ?
-
--- src/sweeping.rt:84:48
-part-same-bytes-end : tie.Need-part-same-bytes-end Inv-loop μ-loop
-part-same-bytes-end c = ?
-
--- src/sweeping.rt:84:16
-same-bytes-requires : tie.Need-same-bytes-requires Inv-loop μ-loop
-same-bytes-requires c κs = ?
-
--- src/sweeping.rt:85:17
 add-times : tie.Need-add-times Inv-loop μ-loop
-add-times c = ?
+add-times c = search needs
 
--- src/sweeping.rt:78:5
 loop-less : tie.Need-loop-less Inv-loop μ-loop
-loop-less c = ?
+loop-less c = search needs
 
--- src/sweeping.rt:78:5
 loop-again : tie.Need-loop-again Inv-loop μ-loop
-loop-again c = ?
+loop-again c =
+    let a = (c .before .before .before .before .before) .args in
+    let l = (c .before .before .before) .loop in
+    let k = time-more (a .senders .now) (a .n) (a .address) (l .i) (omega arith) (sym ((c .before) .is-listed-at .ensures) ∙ c .if1 .taken) in
+    (search needs, omega arith, omega (arith, k, l .inv .2))
 
--- src/sweeping.rt:78:5
 loop-less-2 : tie.Need-loop-less-2 Inv-loop μ-loop
-loop-less-2 c = ?
+loop-less-2 c = search needs
 
--- src/sweeping.rt:78:5
 loop-again-2 : tie.Need-loop-again-2 Inv-loop μ-loop
-loop-again-2 c = ?
+loop-again-2 c =
+    let a = (c .before .before .before .before .before) .args in
+    let l = (c .before .before .before) .loop in
+    let k = no-time (a .senders .now) (a .n) (a .address) (l .i) (omega arith) (sym ((c .before) .is-listed-at .ensures) ∙ c .if1 .left) in
+    (search needs, omega arith, omega (arith, k, l .inv .2))
 
--- src/sweeping.rt:78:5
-loop-less-3 : tie.Need-loop-less-3 Inv-loop μ-loop
-loop-less-3 c = ?
-
--- src/sweeping.rt:78:5
-loop-again-3 : tie.Need-loop-again-3 Inv-loop μ-loop
-loop-again-3 c = ?
-
--- src/sweeping.rt:71:1
 returns : tie.Need-returns Inv-loop μ-loop
-returns c = ?
+returns c =
+    let a = (c .before .before .before) .args in
+    let l = (c .before) .loop in
+    (omega (arith, times-end (a .senders .now) (a .n) (a .address) (l .i) (omega arith), l .inv .2), omega arith)
 
 pub times-listed-spec : {M : Type 1} → statement M
 times-listed-spec =
@@ -92,22 +56,12 @@ times-listed-spec =
     (tie.spec
     Inv-loop
     μ-loop
-    array-read-first
     loop-holds
-    mul-at
-    add-end
     add-i
-    shared-slice-read-if1
-    slice-aggregate-same-bytes
-    sub-same-bytes
-    part-same-bytes-start
-    part-same-bytes-end
-    same-bytes-requires
+    is-listed-at-requires
     add-times
     loop-less
     loop-again
     loop-less-2
     loop-again-2
-    loop-less-3
-    loop-again-3
     returns)
