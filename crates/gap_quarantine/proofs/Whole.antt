@@ -2,20 +2,20 @@
 use Prim.Native.Nat.{ℕ}
 use mathlib.Core.List.{List}
 use mathlib.Core.Path.{_≡_}
-use Rattle.store_rules.specs.Store.{Call, RowForm}
+use Rattle.store_rules.specs.Store.{Store, RowForm, Answer}
 use Rattle.store_rules.specs.Answers.{Said}
 use Rattle.store_rules.specs.View.{bodiesOf, heldView}
 use Rattle.store_rules.specs.declared.Held.{Held}
-use Rattle.answers.specs.Contracts.{Steps, HeldPerformsIn}
-use Rattle.gap_quarantine.specs.Contracts.{viewOf, joined, PerformsIn}
+use Rattle.answers.specs.Contracts.{heard, Gives}
+use Rattle.answers.specs.declared.Outcome.{Outcome}
+use Rattle.gap_quarantine.specs.Contracts.{viewOf, joined}
 use Rattle.gap_quarantine.specs.declared.Quarantine.{Quarantine}
 use Rattle.gap_quarantine.specs.declared.Answered.{Answered}
-use Rattle.answers.specs.declared.Outcome.{Outcome}
 
-module _ (form : RowForm) (q : Quarantine) (call : Call) (numbers bytes numbers′ bytes′ : List ℕ) where
-  pub whole-steps : (a : Said) (h : Held) → Steps (heldView (bodiesOf (q .«guard_numbers») (q .«guard_contents»))) form (q .held) call numbers bytes a h numbers′ bytes′ →
-      Steps viewOf form q call numbers bytes a (joined h (q .«guard_numbers») (q .«guard_contents»)) numbers′ bytes′
-  whole-steps a h s = record {
+module _ (form : RowForm) (q : Quarantine) (done : Store × Answer) (numbers bytes numbers′ bytes′ : List ℕ) where
+  pub whole-gives : (a : Said) (h : Held) → Gives (heldView (bodiesOf (q .«guard_numbers») (q .«guard_contents»))) form (q .held) done numbers bytes a h numbers′ bytes′ →
+      Gives viewOf form q done numbers bytes a (joined h (q .«guard_numbers») (q .«guard_contents»)) numbers′ bytes′
+  whole-gives a h s = record {
     store = s .store;
     answer = s .answer;
     numbersAfter = s .numbersAfter;
@@ -23,7 +23,8 @@ module _ (form : RowForm) (q : Quarantine) (call : Call) (numbers bytes numbers�
     kept = λ n p i. joined (s .kept n p i) (q .«guard_numbers») (q .«guard_contents»);
   }
 
-  pub whole : (o : Outcome) (r : Answered) → HeldPerformsIn form (bodiesOf (q .«guard_numbers») (q .«guard_contents»)) (q .held) call numbers bytes o numbers′ bytes′ →
+  pub whole : (o : Outcome) (r : Answered) →
+      Gives (heldView (bodiesOf (q .«guard_numbers») (q .«guard_contents»))) form (q .held) done numbers bytes (heard (o .answer)) (o .held) numbers′ bytes′ →
       r ≡ record { answer = o .answer; store = joined (o .held) (q .«guard_numbers») (q .«guard_contents») } →
-      PerformsIn form q call numbers bytes r numbers′ bytes′
-  whole o r s e = rw e (whole-steps _ (o .held) s)
+      Gives viewOf form q done numbers bytes (heard (r .answer)) (r .store) numbers′ bytes′
+  whole o r s e = rw e (whole-gives _ (o .held) s)
