@@ -7,6 +7,7 @@ use mathlib.Core.Bool.{Bool, true, false}
 use mathlib.Core.Option.{Option, none, some}
 use mathlib.Core.List.{List, [], _∷_, map}
 use lib.ListN.{length, take, getD, set}
+use lib.Seq.{set-getD}
 use types.Run.{OneOf, miss}
 use denote.Enum.Declared.{tagOf}
 use Rattle.lists.specs.Bytes.{Bytes}
@@ -94,6 +95,13 @@ module _ (form : RowForm) (sender : Bytes) (head : ℕ) (known : List ℕ) (cont
     silent-one k =
         silent _ _ _ _ _ _ len guards entries₀ labels₀ many rows₀ [] entries labels rows [] n w i t d more
         (λ b l. visit b l ∙ visits-silent head known (entryOf (getD entries i d)) c k)
+
+    -- nothing left before it
+    pub silent-still : OneOf (0 ∷ []) (tagOf course.the-type c) → i ≤ w → Polling len guards entries₀ labels₀ many rows₀ entries labels rows n (w + 1) (i + 1)
+    silent-still k h =
+        let here : w ≡ i = omega (arith, t .behind) in
+        let still : set entries w (getD entries i d) ≡ entries = ap (λ (m : ℕ). set entries m (getD entries i d)) here ∙ set-getD entries i d in
+        rw still at (silent-one k)
 
     module _ (tells : Telling) (is : c ≡ Tells tells) where
       told : (b : Bodies) → Lent has numbers contents b →

@@ -7,7 +7,7 @@ use mathlib.Core.List.{List, []}
 use mathlib.Core.Option.{none, some, orElse}
 use lib.Dec.{eqb, ltb}
 use lib.ListN.{length}
-use borrow.Author.Tests.{lt-ltb, le-ltb, ltb-false, eqb-true}
+use borrow.Author.Tests.{lt-ltb, le-ltb, ltb-false, eqb-true, not-false}
 use Rattle.lists.specs.Bytes.{Bytes}
 use Rattle.lists.specs.Lists.{sum}
 use Rattle.refusal.specs.Numbers.{refusalNumber}
@@ -33,6 +33,11 @@ agree senders heads counts = go (ltb 64 (length heads)) refl (eqb (length sender
     go false a true b false d e = absurd (true≢false e)
     go false a true b true d e = (ltb-false _ _ a, eqb-true _ _ b, sym (eqb-true _ _ d))
 
+-- a sum that is not bad is the nonce list's length
+pub sums : (counts nonces : List ℕ) → badSum counts nonces ≡ false → sum counts ≡ length nonces
+unfolding badSum
+sums counts nonces h = eqb-true _ _ (not-false _ h)
+
 module _ (bodies : Bodies) (h : Held) (senders : Bytes) (heads counts nonces slice : List ℕ) where
   abbrev asked : Sweep
   asked = askedSweep senders heads counts nonces slice
@@ -46,23 +51,23 @@ module _ (bodies : Bodies) (h : Held) (senders : Bytes) (heads counts nonces sli
   bad-lists t = refused-sweep BadSweepLists (rw t)
 
   module _ (good : badLists senders heads counts ≡ false) where
-    pub bad-sum : eqb (sum counts) (length nonces) ≡ false → SweepSteps (heldView bodies) h asked slice (saysRefused 18) h slice
-    unfolding sweepRefusal sweepInputRefusal badSum orElse when
+    pub bad-sum : badSum counts nonces ≡ true → SweepSteps (heldView bodies) h asked slice (saysRefused 18) h slice
+    unfolding sweepRefusal sweepInputRefusal orElse when
     bad-sum t = refused-sweep BadNonceCounts (rw (good, t))
 
-    module _ (sums : eqb (sum counts) (length nonces) ≡ true) where
+    module _ (summed : badSum counts nonces ≡ false) where
       pub big : bigCount counts ≡ true → SweepSteps (heldView bodies) h asked slice (saysRefused 3) h slice
-      unfolding sweepRefusal sweepInputRefusal badSum orElse when
-      big t = refused-sweep ManyKnown (rw (good, sums, t))
+      unfolding sweepRefusal sweepInputRefusal orElse when
+      big t = refused-sweep ManyKnown (rw (good, summed, t))
 
       module _ (small : bigCount counts ≡ false) where
         pub short-slice : length slice < 19 * listedEntries senders (length heads) (entriesSeen h) → SweepSteps (heldView bodies) h asked slice (saysRefused 5) h slice
-        unfolding sweepRefusal sweepInputRefusal badSum sweepRoomRefusal orElse when
-        short-slice l = refused-sweep ShortSlice (rw (good, sums, small, lt-ltb _ _ l))
+        unfolding sweepRefusal sweepInputRefusal sweepRoomRefusal orElse when
+        short-slice l = refused-sweep ShortSlice (rw (good, summed, small, lt-ltb _ _ l))
 
         made : 19 * listedEntries senders (length heads) (entriesSeen h) ≤ length slice → sweepStep (heldView bodies h) asked ≡ sweepEffect (heldView bodies h) asked
-        unfolding sweepStep sweepRefusal sweepInputRefusal badSum sweepRoomRefusal orElse when unless
-        made l = rw (good, sums, small, le-ltb _ _ l)
+        unfolding sweepStep sweepRefusal sweepInputRefusal sweepRoomRefusal orElse when unless
+        made l = rw (good, summed, small, le-ltb _ _ l)
 
         pub swept : 19 * listedEntries senders (length heads) (entriesSeen h) ≤ length slice → (a : Said) (h′ : Held) (slice′ : List ℕ) →
             Gives (heldView bodies) long h (sweepEffect (heldView bodies h) asked) slice [] a h′ slice′ [] → SweepSteps (heldView bodies) h asked slice a h′ slice′

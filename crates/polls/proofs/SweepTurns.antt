@@ -130,27 +130,28 @@ module _ (q : Store) (senders : Bytes) (heads counts nonces slice : List ℕ) wh
             let more : List Row = rowsListed (answered .0) later in
             let split : rowsListed s (left s used from i) ≡ rowsOf (answered .1) ++ more = ap (rowsListed s) left-next in
             let fits : used + length new ≤ length after = omega (arith, t .fits, t .same) in
-            let place : used + 19 * k ≡ used + length new = omega arith in
-            (record {
-              within = omega arith;
-              left = nonces-end counts nonces from i g (t .left);
-              same = rw er (length-at used new after fits) ∙ t .same;
-              fits = omega (arith, t .fits);
-              nineteen = omega (arith, t .nineteen);
-            },
-            record {
-              store = rw es (sym (ap (run s) left-next) ∙ l .store);
-              counted = rw es (omega (arith, l .counted, ap length split, length-append (rowsOf (answered .1)) more));
-              writes =
-                  rw (es, er)
-                  (ap (λ (n : ℕ). writtenAt n (collect (rowNumbers long) more) (writtenAt used new after)) place
-                  ∙ at-behind used new (collect (rowNumbers long) more) after fits
-                  ∙ ap (λ (m : List ℕ). writtenAt used m after)
-                  (ap (λ (n : List ℕ). n ++ collect (rowNumbers long) more) (poll-writes s long (take 20 (drop (20 * i) senders)) head (take taken (drop from nonces)) none (length slice - used))
-                  ∙ sym (collect-append (rowNumbers long) (rowsOf (answered .1)) more)
-                  ∙ sym (ap (collect (rowNumbers long)) split))
-                  ∙ l .writes);
-            })
+            let place : used + 19 * k ≡ used + length new = omega arith in (
+              record {
+                within = omega arith;
+                left = nonces-end counts nonces from i g (t .left);
+                same = rw er (length-at used new after fits) ∙ t .same;
+                fits = omega (arith, t .fits);
+                nineteen = omega (arith, t .nineteen);
+              },
+              record {
+                store = rw es (sym (ap (run s) left-next) ∙ l .store);
+                counted = rw es (omega (arith, l .counted, ap length split, length-append (rowsOf (answered .1)) more));
+                writes =
+                    rw (es, er)
+                    (ap (λ (n : ℕ). writtenAt n (collect (rowNumbers long) more) (writtenAt used new after)) place
+                    ∙ at-behind used new (collect (rowNumbers long) more) after fits
+                    ∙ ap (λ (m : List ℕ). writtenAt used m after)
+                    (ap (λ (n : List ℕ). n ++ collect (rowNumbers long) more) (poll-writes s long (take 20 (drop (20 * i) senders)) head (take taken (drop from nonces)) none (length slice - used))
+                    ∙ sym (collect-append (rowNumbers long) (rowsOf (answered .1)) more)
+                    ∙ sym (ap (collect (rowNumbers long)) split))
+                    ∙ l .writes);
+              },
+            )
 
       -- the same of a poll in the code's terms, and of the slice with its part back
       module _ (sender known part : List ℕ) (is-sender : sender ≡ take 20 (drop (20 * i) senders)) (is-known : known ≡ take (from + taken - from) (drop from nonces))

@@ -125,9 +125,11 @@ pub(crate) fn poll_inner(
             contents,
         );
         let Course::Tells(telling) = course else {
-            // A whole entry that is read anew is copied faster than one that was taken apart.
-            let same = h.entries[old];
-            h.entries[w] = same;
+            if w < old {
+                // A whole entry that is read anew is copied faster than one that was taken apart.
+                let same = h.entries[old];
+                h.entries[w] = same;
+            }
             w += 1;
             continue;
         };

@@ -1,13 +1,10 @@
 // The sweep: polls of many senders in one call.
 ghost use mathlib.Core.Path.{_≡_};
-ghost use mathlib.Core.Bool.{not};
-ghost use mathlib.Core.List.{[]};
 ghost use Prim.Native.Nat.{_+_, _*_, _≤_};
-ghost use lib.Dec.{eqb};
 ghost use lib.ListN.{length, take, drop};
 ghost use Rattle.lists.specs.Bytes.{eqBytes};
 ghost use Rattle.lists.specs.Lists.{sum, keep, chunks};
-ghost use Rattle.store_rules.specs.Sweeps.{badLists, bigCount, listedEntries};
+ghost use Rattle.store_rules.specs.Sweeps.{badLists, badSum, bigCount, listedEntries};
 ghost use Rattle.store_rules.specs.View.{entriesSeen};
 ghost use Rattle.answers.specs.Contracts.{heard, askedSweep, SweepsAlways};
 ghost use Rattle.polls.specs.Contracts.{rowsSaid, PollsInTurn};
@@ -36,21 +33,21 @@ fn bad_lists(senders: &[u8], heads: &[u64], counts: &[u64]) -> bool
     n != counts.len()
 }
 
-// Whether the counts sum to this number. Each is taken off what is left, so no sum wraps.
-fn sums_to(counts: &[u64], total: u64) -> bool
-    ensures { λ r. ⌜ r ≡ eqb (sum (now (counts .entry))) total ⌝ }
+// Whether the counts do not sum to the nonce list's length. Each is taken off what is left, so no sum wraps.
+fn bad_sum(counts: &[u64], nonces: &[u64]) -> bool
+    ensures { λ r. ⌜ r ≡ badSum (now (counts .entry)) (now (nonces .entry)) ⌝ }
 {
-    let mut left = total;
+    let mut left = nonces.len() as u64;
     let mut i = 0;
     while i < counts.len() {
         let n = counts[i];
         i += 1;
         if left < n {
-            return false;
+            return true;
         }
         left -= n;
     }
-    left == 0
+    left != 0
 }
 
 // Whether a count exceeds 256.
@@ -211,19 +208,22 @@ pub fn sweep(
         (askedSweep (now (senders .entry)) (now (heads .entry)) (now (counts .entry)) (now (nonces .entry)) (now (rows .entry)))
         (now (rows .entry)) r (now (rows .exit)) ⌝ }
 {
-    if bad_lists(senders, heads, counts) {
+    let lists_are_bad = bad_lists(senders, heads, counts);
+    let sum_is_bad = bad_sum(counts, nonces);
+    let count_is_big = big_count(counts);
+    if lists_are_bad {
         return Outcome {
             held: h,
             answer: Answer::Refused(Refusal::BadSweepLists),
         };
     }
-    if !sums_to(counts, nonces.len() as u64) {
+    if sum_is_bad {
         return Outcome {
             held: h,
             answer: Answer::Refused(Refusal::BadNonceCounts),
         };
     }
-    if big_count(counts) {
+    if count_is_big {
         return Outcome {
             held: h,
             answer: Answer::Refused(Refusal::ManyKnown),

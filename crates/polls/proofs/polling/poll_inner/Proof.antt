@@ -1,6 +1,7 @@
 use Prim.Native.Nat.{_+_, _-_, _≤_}
 use native.Mathlib.Omega.{arith}
 use mathlib.Core.Path.{_≡_, refl, sym, _∙_}
+use mathlib.Core.Logic.{⊎-elim}
 use lib.ListN.{length}
 use Rattle.lists.specs.Lists.{keep}
 use Rattle.lists.proofs.Compacting.{clamp, long}
@@ -9,7 +10,7 @@ use Rattle.store_rules.proofs.RowForms.{row-room}
 use Rattle.decisions.specs.Courses.{formOf}
 use Rattle.store_rules.proofs.Counting.{countLeft, count-hit, count-miss, count-none}
 use Rattle.polls.proofs.PollSteps.{isOf, paired, many-known, content-bad, short-slice}
-use Rattle.polls.proofs.PollTurns.{Polling, begins, silent-one, room, stays-one, leaves-one, passes}
+use Rattle.polls.proofs.PollTurns.{Polling, begins, silent-one, silent-still, room, stays-one, leaves-one, passes}
 use borrow.Author.Needs.{needs}
 use Rattle.polls.proofs.polling.poll_inner.Statement.{statement}
 use Rattle.polls.proofs.polling.poll_inner.Tie as tie
@@ -149,7 +150,10 @@ loop2-again : tie.Need-loop2-again Inv-loop μ-loop Inv-loop2 μ-loop2
 loop2-again c =
     let a = (c .before .before .before .before .before .before .before .before .before .before .before .before .before .before .before .before .before .before .before .before .before .before .before .before) .args in
     let h = (c .before .before .before .before .before .before .before .before .before) .loop2 in
-    (silent-one (formOf (a .form)) (a .sender) (a .head) (a .known .now) (contentOf (a .has-content) (a .nonces .now) (a .hashes .now)) (a .has-content) (a .numbers .now) (a .contents .now) _ _ _ _ _ _ _ _ _ _ _ _ (h .inv .0) _ ((c .before .before .before .before .before .before .before .before) .loop2-test .taken) ((c .before .before .before) .course-of .result) (λ b l. (c .before .before .before) .course-of .ensures b l) ((c .before .before) .match .keys2), h .inv .1)
+    ⊎-elim
+    (λ x. rw (x .2) (silent-one (formOf (a .form)) (a .sender) (a .head) (a .known .now) (contentOf (a .has-content) (a .nonces .now) (a .hashes .now)) (a .has-content) (a .numbers .now) (a .contents .now) _ _ _ _ _ _ _ _ _ _ _ _ (h .inv .0) _ ((c .before .before .before .before .before .before .before .before) .loop2-test .taken) ((c .before .before .before) .course-of .result) (λ b l. (c .before .before .before) .course-of .ensures b l) ((c .before .before) .match .keys2), h .inv .1))
+    (λ x. rw (x .1) (silent-still (formOf (a .form)) (a .sender) (a .head) (a .known .now) (contentOf (a .has-content) (a .nonces .now) (a .hashes .now)) (a .has-content) (a .numbers .now) (a .contents .now) _ _ _ _ _ _ _ _ _ _ _ _ (h .inv .0) _ ((c .before .before .before .before .before .before .before .before) .loop2-test .taken) ((c .before .before .before) .course-of .result) (λ b l. (c .before .before .before) .course-of .ensures b l) ((c .before .before) .match .keys2) (x .0 .left), h .inv .1))
+    (c .if5 .came)
 
 mul-at : tie.Need-mul-at Inv-loop μ-loop Inv-loop2 μ-loop2
 mul-at c =

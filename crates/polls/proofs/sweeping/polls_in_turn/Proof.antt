@@ -24,9 +24,10 @@ abbrev μ-loop : tie.MeasureT-loop
 
 loop-holds : tie.Need-loop-holds Inv-loop μ-loop
 loop-holds c =
-    let a = (c .before .before .before .before .before) .args in
-    (takes-nothing (a .heads .now) (a .counts .now) (a .nonces .now) (a .rows .now) ((c .before .before .before .before .before) .pre .2),
-    λ bodies. start (heldView bodies (a .h)) (a .senders .now) (a .heads .now) (a .counts .now) (a .nonces .now) (a .rows .now))
+    let a = (c .before .before .before .before .before) .args in (
+      takes-nothing (a .heads .now) (a .counts .now) (a .nonces .now) (a .rows .now) ((c .before .before .before .before .before) .pre .2),
+      λ bodies. start (heldView bodies (a .h)) (a .senders .now) (a .heads .now) (a .counts .now) (a .nonces .now) (a .rows .now),
+    )
 
 sender-at-requires : tie.Need-sender-at-requires Inv-loop μ-loop
 sender-at-requires c κs = search needs
