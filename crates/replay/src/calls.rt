@@ -104,6 +104,33 @@ pub(crate) fn poll(out: &mut Output, q: Quarantine, s: &[u8]) -> Quarantine {
     store
 }
 
+// A sweep of senders. The slice has room for every sender of a list of 64 to have all 64 frames, and a script has no room for
+// 8,192 nonces.
+pub(crate) fn sweep(out: &mut Output, q: Quarantine, s: &[u8]) -> Quarantine {
+    let mut rows = [0u64; 77824];
+    let mut nonces = [0u64; 8192];
+    let heads_at = script::after_list(s, 2, 1);
+    let counts_at = script::after_list(s, heads_at, 8);
+    let heads = script::numbers_at(s, heads_at);
+    let head_count = heads.count;
+    let head_list = heads.list;
+    let counts = script::numbers_at(s, counts_at);
+    let count_count = counts.count;
+    let count_list = counts.list;
+    let nonce_count = script::put_numbers(s, script::after_list(s, counts_at, 8), &mut nonces);
+    let r = q.sweep(
+        script::bytes_at(s, 2),
+        &head_list[0..head_count],
+        &count_list[0..count_count],
+        &nonces[0..nonce_count],
+        &mut rows,
+    );
+    let answer = r.answer;
+    print::polled(out, answer, &rows);
+    let store = r.store;
+    store
+}
+
 // A guard of either kind.
 pub(crate) fn guard(out: &mut Output, q: Quarantine, s: &[u8]) -> Quarantine {
     let hash = script::hash_at(s, 3);

@@ -17,6 +17,7 @@ fn run_call(out: &mut Output, q: Quarantine, s: &[u8]) -> Quarantine {
     match script::byte_at(s, 1) {
         b'P' => calls::push(out, q, s),
         b'Q' | b'M' => calls::poll(out, q, s),
+        b'W' => calls::sweep(out, q, s),
         b'G' => calls::guard(out, q, s),
         b'E' => calls::enter(out, q, s),
         b'R' => calls::reorganise(out, q, s),

@@ -74,12 +74,11 @@ pub(crate) struct Numbers {
     pub(crate) list: [u64; 257],
 }
 
-// A list of numbers, led by its count.
-pub(crate) fn numbers_at(s: &[u8], at: usize) -> Numbers
-    ensures { λ r. ⌜ (r .count ≤ 257) × (length (r .list) ≡ 257) ⌝ }
+// Puts the numbers of a list, which is led by its count, into the slice, as far as it goes; how many these are.
+pub(crate) fn put_numbers(s: &[u8], at: usize, list: &mut [u64]) -> usize
+    ensures { λ r. ⌜ r ≤ length (now (list .entry)) ⌝ }
 {
-    let mut list = [0u64; 257];
-    let count = at_most(count_at(s, at), 257);
+    let count = at_most(count_at(s, at), list.len());
     let mut from = after(s, at, 2);
     let mut i = 0;
     while i < count {
@@ -87,6 +86,15 @@ pub(crate) fn numbers_at(s: &[u8], at: usize) -> Numbers
         from = after(s, from, 8);
         i += 1;
     }
+    count
+}
+
+// A list of numbers, led by its count.
+pub(crate) fn numbers_at(s: &[u8], at: usize) -> Numbers
+    ensures { λ r. ⌜ (r .count ≤ 257) × (length (r .list) ≡ 257) ⌝ }
+{
+    let mut list = [0u64; 257];
+    let count = put_numbers(s, at, &mut list);
     Numbers {
         count: count,
         list: list,
@@ -161,6 +169,14 @@ fn after_content(s: &[u8], at: usize) -> usize {
     }
 }
 
+// The size of a sweep: sender bytes, heads, counts and nonces.
+fn sweep_size(s: &[u8]) -> usize {
+    let heads = after_list(s, 2, 1);
+    let counts = after_list(s, heads, 8);
+    let nonces = after_list(s, counts, 8);
+    after_list(s, nonces, 8)
+}
+
 // The size of a guard call, by its kind.
 fn guard_size(s: &[u8]) -> usize {
     let lists = after_list(s, after_list(s, 35, 8), 1);
@@ -189,6 +205,7 @@ pub(crate) fn call_size(s: &[u8]) -> usize {
     match byte_at(s, 1) {
         b'P' => after(s, 2, 92),
         b'Q' | b'M' => after_content(s, after_list(s, after(s, 2, 28), 8)),
+        b'W' => sweep_size(s),
         b'G' => guard_size(s),
         b'E' => enter_size(s),
         b'R' => after_optional_hash(s, after(s, 2, 8)),

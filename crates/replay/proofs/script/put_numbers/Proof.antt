@@ -2,11 +2,11 @@ use Prim.Native.Nat.{_-_, _≤_}
 use mathlib.Core.Path.{_≡_}
 use lib.ListN.{length}
 use borrow.Author.Needs.{needs}
-use Rattle.replay.proofs.script.numbers_at.Statement.{statement}
-use Rattle.replay.proofs.script.numbers_at.Tie as tie
+use Rattle.replay.proofs.script.put_numbers.Statement.{statement}
+use Rattle.replay.proofs.script.put_numbers.Tie as tie
 
 abbrev Inv-loop : tie.InvT-loop
-Inv-loop s at list₀ count from₀ i₀ list from i = (i ≤ count) × (count ≤ 257) × (length list ≡ 257)
+Inv-loop s at list₀ count from₀ i₀ list from i = (i ≤ count) × (count ≤ length list₀) × (length list ≡ length list₀)
 
 abbrev μ-loop : tie.MeasureT-loop
 μ-loop s at list₀ count from₀ i₀ list from i = count - i
@@ -29,8 +29,8 @@ number-at-requires c κs = search needs
 mul-list : tie.Need-mul-list Inv-loop μ-loop
 mul-list c = search needs
 
-array-write-list : tie.Need-array-write-list Inv-loop μ-loop
-array-write-list c = search needs
+slice-write-list : tie.Need-slice-write-list Inv-loop μ-loop
+slice-write-list c = search needs
 
 after-requires-2 : tie.Need-after-requires-2 Inv-loop μ-loop
 after-requires-2 c κs = search needs
@@ -44,11 +44,14 @@ loop-less c = search needs
 loop-again : tie.Need-loop-again Inv-loop μ-loop
 loop-again c = search needs
 
+same-length : tie.Need-same-length Inv-loop μ-loop
+same-length c = search needs
+
 returns : tie.Need-returns Inv-loop μ-loop
 returns c = search needs
 
-pub numbers-at-spec : {M : Type 1} → statement M
-numbers-at-spec =
+pub put-numbers-spec : {M : Type 1} → statement M
+put-numbers-spec =
     tie.close
     (tie.spec
     Inv-loop
@@ -59,9 +62,10 @@ numbers-at-spec =
     loop-holds
     number-at-requires
     mul-list
-    array-write-list
+    slice-write-list
     after-requires-2
     add-i
     loop-less
     loop-again
+    same-length
     returns)
