@@ -1,5 +1,6 @@
-// Refusal 5 of each call that lists: the call is lent a slice that is one element short, and then one that is just long enough. Behind
-// those come the same calls with longer slices, and what no script asks, whether a store is empty.
+// Refusal 5 of each call that lists: the call is lent a slice that is one element short, and then one that is just long enough. Of a
+// sweep the refusals that come before 5 too. Behind those come the same calls with longer slices, and what no script asks, whether a
+// store is empty.
 use gap_quarantine::NonceConsumed;
 use gap_quarantine::ParkedFrame;
 use gap_quarantine::Quarantine;
@@ -7,6 +8,7 @@ use gap_quarantine::Quarantine;
 mod changing; // changing.rt: the calls that may change the store
 mod print; // print.rt: a line for each call
 mod reads; // reads.rt: the calls that only read
+mod sweeps; // sweeps.rt: sweeps
 
 // What every element of a slice is when it is lent.
 pub(crate) const MARK: u8 = 170;
@@ -62,6 +64,8 @@ fn main() {
     }
     let mut out = [0u8; console::SIZE];
     changing::polls(&mut out);
+    sweeps::sweeps(&mut out);
+    sweeps::lists(&mut out);
     changing::evictions(&mut out);
     changing::reorganisations(&mut out);
     changing::finalities(&mut out);
@@ -69,6 +73,7 @@ fn main() {
     reads::senders(&mut out);
     reads::gaps(&mut out);
     changing::longer(&mut out);
+    sweeps::longer(&mut out);
     reads::longer(&mut out);
     print::is_empty(&mut out, b"an empty store", Quarantine::new());
     print::is_empty(&mut out, b"a store of two", tracked());

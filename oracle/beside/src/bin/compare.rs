@@ -102,16 +102,23 @@ impl Run<'_> {
         println!("store, random: {random}");
         let short = stores::short_runs(self.replay);
         println!("store, every run of up to {LONGEST} calls of a menu of {}: {short}", menu().len());
-        self.differences += random.model + random.replay + short.model + short.replay;
+        let largest = stores::largest_sweeps(self.replay);
+        println!("store, the largest sweeps: {largest}");
+        self.differences += random.model + random.replay + short.model + short.replay + largest.model + largest.replay;
         self.differences += self.replay.map_or(0, stores::bad_inputs);
         self.seen.add(&random.seen);
         self.seen.add(&short.seen);
-        self.counts.push(format!("{} store calls", random.calls + short.calls));
+        self.seen.add(&largest.seen);
+        self.counts.push(format!("{} store calls", random.calls + short.calls + largest.calls));
         self.counts.push(format!("{} random scripts and {} short runs", random.scripts, short.scripts));
     }
 
     fn slices(&mut self) {
         let lines = slices::lines(&mut self.seen);
+        for (due, model) in slices::beside_model(None).iter().filter(|(due, model)| due != model) {
+            println!("DIFFERENCE between the Rust and the model, lent a slice:\n  the Rust: {due}\n  it:       {model}");
+            self.differences += 1;
+        }
         if let Some(program) = &self.sizes.short_slices {
             let differences = slices::compare(Path::new(program), &lines);
             println!("slices: {} lines of short_slices, {differences} differences", lines.len());
@@ -121,13 +128,15 @@ impl Run<'_> {
     }
 
     fn orders(&mut self) {
-        let (mut pairs, mut reordered, mut short, mut differences, mut reversed, mut misplaced) = (0, 0, 0, 0, 0, 0);
+        let (mut pairs, mut reordered, mut short, mut swept, mut differences) = (0, 0, 0, 0, 0);
+        let (mut reversed, mut misplaced, mut ill_swept) = (0, 0, 0);
         for seed in self.sizes.seed..self.sizes.seed + self.sizes.orders {
             match order::try_orders(seed) {
                 order::Outcome::NoRoom => {}
                 order::Outcome::SameOrder => pairs += 1,
-                order::Outcome::Equal { short_rows } => {
-                    (pairs, reordered, short) = (pairs + 1, reordered + 1, short + usize::from(short_rows));
+                order::Outcome::Equal { short_rows, swept_rows } => {
+                    (pairs, reordered) = (pairs + 1, reordered + 1);
+                    (short, swept) = (short + usize::from(short_rows), swept + usize::from(swept_rows));
                 }
                 order::Outcome::Different(says) => {
                     (pairs, reordered, differences) = (pairs + 1, reordered + 1, differences + 1);
@@ -136,11 +145,16 @@ impl Run<'_> {
             }
             reversed += usize::from(order::reversed_differs(seed));
             misplaced += usize::from(order::wrong_place_differs(seed));
+            ill_swept += usize::from(order::wrong_sweep_differs(seed));
         }
         print!("order rule, on the Rust with the model's sender and place: {pairs} pairs with room, ");
-        println!("{reordered} truly reordered, {short} of them with short rows, {differences} differences");
+        print!("{reordered} truly reordered, {short} of them with short rows, ");
+        println!("{swept} with rows of sweeps whose polls come apart, {differences} differences");
         println!("  the reverse of the list, which is no legal order, was told apart in {reversed}");
         println!("  a place counted over all senders, which hangs on the order, was told apart in {misplaced}");
+        println!(
+            "  a sweep that gives each sender the first nonces, and so is not its polls, was told apart in {ill_swept}"
+        );
         self.differences += differences;
         self.counts.push(format!("{reordered} true reorderings"));
     }

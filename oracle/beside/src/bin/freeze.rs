@@ -15,7 +15,7 @@ use beside::scratch::Scratch;
 use beside::store::answers::Answer;
 use beside::store::calls::Call;
 use beside::store::due::Due;
-use beside::store::generate::{long_script, script};
+use beside::store::generate::{long_script, script, unswept_script};
 use beside::store::script::{led, Script};
 use beside::store::{self, strength as stores};
 use std::collections::BTreeSet;
@@ -25,7 +25,8 @@ use std::path::Path;
 /// Random inputs are looked through from this seed on.
 const SEED: u64 = 1_000_000;
 
-/// How many random scripts, as many more with short polls, journals and records to write are kept beside the small ones.
+/// How many random scripts, as many more with short polls and with sweeps, journals and records to write are kept beside the
+/// small ones.
 const RANDOM_SCRIPTS: u64 = 8;
 const RANDOM_JOURNALS: u64 = 30;
 const RANDOM_RECORDS: usize = 20;
@@ -48,6 +49,9 @@ const STORE_REFUSALS: [u8; 7] = [1, 2, 3, 4, 6, 7, 8];
 
 /// Those of them that a poll can meet.
 const POLL_REFUSALS: [u8; 2] = [3, 4];
+
+/// The refusals that a sweep can meet in a script.
+const SWEEP_REFUSALS: [u8; 3] = [17, 18, 3];
 
 /// The refusals that random journals with a long output, and records alone, meet.
 const FOLD_REFUSALS: [u8; 3] = [10, 11, 12];
@@ -86,7 +90,7 @@ fn scripts() -> Vec<Script> {
     let mut list = vec![as_given(store::manual::life())];
     list.extend(store::examples::examples().into_iter().map(|e| whole(e.calls)));
     list.extend(store::manual::answers().into_iter().map(as_given));
-    for (wrong, says) in store::wrong::ALL {
+    for (wrong, says) in store::wrong::ALL.iter().filter(|(wrong, _)| !wrong.is_about_slices()) {
         let calls = stores::smallest_for(*wrong, SEED, 30_000);
         list.push(whole(calls.unwrap_or_else(|| panic!("no script tells: {says}"))));
     }
@@ -98,22 +102,25 @@ fn scripts() -> Vec<Script> {
     list.extend((SEED..SEED + RANDOM_SCRIPTS).map(long_script));
     // scripts that break off
     list.extend((SEED..).map(long_script).filter(|s| !s.broken.is_empty() && s.calls.len() < 20).take(6));
-    list.extend(scripts_with_short());
+    list.extend(scripts_with("CM", &POLL_REFUSALS, unswept_script, SEED + RANDOM_SCRIPTS));
+    list.extend(scripts_with("CW", &SWEEP_REFUSALS, script, SEED + 2 * RANDOM_SCRIPTS));
     let marks: BTreeSet<&str> = list.iter().flat_map(|s| s.calls.iter().map(Call::mark)).collect();
-    assert_eq!(marks.len(), 17, "every call stands in the sample");
+    assert_eq!(marks.len(), 18, "every call stands in the sample");
     list
 }
 
-/// Scripts as they were made, with short polls: each refusal of one, random ones, and some that break off in one.
-fn scripts_with_short() -> Vec<Script> {
+/// Scripts as they were made, with calls of a mark: each of its refusals, random ones from a seed on, and some that break off in
+/// such a call.
+fn scripts_with(mark: &str, refusals: &[u8], script: fn(u64) -> Script, seed: u64) -> Vec<Script> {
     let refuses = |script: &Script, number: u8| {
         let mut answered = script.calls.iter().zip(answers(script));
-        answered.any(|(call, answer)| call.mark() == "CM" && answer == Answer::Refused(number))
+        answered.any(|(call, answer)| call.mark() == mark && answer == Answer::Refused(number))
     };
-    let first = |number: u8| (SEED..).map(script).find(|s| refuses(s, number)).expect("the seeds do not end");
-    let mut list: Vec<Script> = POLL_REFUSALS.map(first).into();
-    list.extend((SEED + RANDOM_SCRIPTS..SEED + 2 * RANDOM_SCRIPTS).map(script));
-    list.extend((SEED..).map(script).filter(|s| s.broken.starts_with(b"CM") && s.calls.len() < 20).take(2));
+    let first = |number: &u8| (SEED..).map(script).find(|s| refuses(s, *number)).expect("the seeds do not end");
+    let mut list: Vec<Script> = refusals.iter().map(first).collect();
+    list.extend((seed..seed + RANDOM_SCRIPTS).map(script));
+    let breaks_off = |s: &Script| s.broken.starts_with(mark.as_bytes()) && s.calls.len() < 20;
+    list.extend((SEED..).map(script).filter(breaks_off).take(2));
     list
 }
 

@@ -2,7 +2,7 @@
 //! the Rust on every call.
 use super::{Kind, Seen};
 use crate::store::answers::{Answer, Entry, Row, ShortRow, State, Whose};
-use crate::store::calls::{Address, Call, Form};
+use crate::store::calls::{Address, Call, Form, Side, Sweep};
 use crate::store::model::Model;
 
 /// Notes what is answered to a call, made when the store was as the model has it.
@@ -20,6 +20,8 @@ pub fn see_call(seen: &mut Seen, call: &Call, before: &Model, answer: &Answer) {
             let rows: Vec<Listed> = rows.iter().map(of_short).collect();
             polled(*sender, *head, known, before, &rows).into_iter().for_each(|kind| seen.see(in_short(kind)));
         }
+        (Call::Sweep(s), Answer::Rows(rows)) => see_sweep(seen, s, before, rows),
+        (Call::Sweep(s), Answer::Refused(number)) => seen.see(refused_sweep(s, *number)),
         (Call::Guard(g), Answer::Done) => {
             let held = before.guards.iter().any(|held| held.hash == g.hash);
             seen.see(if held { Kind::GuardReplaced } else { Kind::GuardNew });
@@ -180,5 +182,72 @@ fn of_row((code, nonces): &Listed, entry: &Entry, known: &[u64], before: &Model)
         (_, false, true) => Kind::WaitsGuardNone,
         (_, false, false) if known.contains(&nonces[0]) => Kind::WaitsGuardNonces,
         _ => Kind::WaitsUnknown,
+    }
+}
+
+// ---- sweeps
+
+/// Which refusal it is, and for what.
+fn refused_sweep(s: &Sweep, number: u8) -> Kind {
+    let (heads, nonces) = (s.heads.len(), s.nonces.len() as u128);
+    let sum: u128 = s.counts.iter().map(|count| u128::from(*count)).sum();
+    match number {
+        17 if s.senders.len() != 20 * heads => Kind::Sweep17Bytes,
+        17 if s.counts.len() != heads => Kind::Sweep17Counts,
+        17 => Kind::Sweep17Senders,
+        18 if sum < nonces => Kind::Sweep18Less,
+        18 if u128::from(sum as u64) == nonces => Kind::Sweep18Wraps,
+        18 => Kind::Sweep18More,
+        3 => Kind::Sweep3,
+        _ => panic!("no script's sweep is refused {number}"),
+    }
+}
+
+/// The kinds of a sweep and of its polls. How many of the rows are of which poll is read from the model, on which they are made.
+fn see_sweep(seen: &mut Seen, s: &Sweep, before: &Model, rows: &[Row]) {
+    let mut model = before.clone();
+    let mut rows = rows.iter();
+    let mut tellers = Vec::new();
+    for poll in s.polls() {
+        let Call::Poll { sender, head, known, .. } = &poll else {
+            panic!("a sweep is read as polls");
+        };
+        let store = model.clone();
+        let Answer::Rows(own) = model.answer(&poll) else {
+            panic!("{} does not answer so", poll.mark());
+        };
+        let own: Vec<Listed> = rows.by_ref().take(own.len()).map(of_long).collect();
+        polled(*sender, *head, known, &store, &own).into_iter().for_each(|kind| seen.see(in_sweep(kind)));
+        if !own.is_empty() {
+            tellers.push(*sender);
+        }
+    }
+    let mut senders = tellers.clone();
+    senders.sort_unstable();
+    senders.dedup();
+    let kinds = [
+        (Kind::SweepOfNone, s.heads.is_empty()),
+        (Kind::SweepOf64, s.heads.len() == 64),
+        (Kind::SweepSeveral, senders.len() > 1),
+        (Kind::SweepTwice, senders.len() < tellers.len()),
+        (Kind::Sweep256, s.counts.contains(&256)),
+    ];
+    kinds.into_iter().filter(|(_, holds)| *holds).for_each(|(kind, _)| seen.see(kind));
+}
+
+/// The kind of a poll of a sweep beside a long one's; with no content, no guard matches.
+fn in_sweep(kind: Kind) -> Kind {
+    match kind {
+        Kind::PollNobody => Kind::SweepNobody,
+        Kind::RescueNonces => Kind::SweepRescueNonces,
+        Kind::RescueNone => Kind::SweepRescueNone,
+        Kind::Consumed => Kind::SweepConsumed,
+        Kind::ConsumedDegraded => Kind::SweepConsumedDegraded,
+        Kind::WaitsUnknown => Kind::SweepWaitsUnknown,
+        Kind::WaitsDegradedNonces => Kind::SweepWaitsDegradedNonces,
+        Kind::WaitsDegradedNone => Kind::SweepWaitsDegradedNone,
+        Kind::SilentHeld => Kind::SweepSilentHeld,
+        Kind::SilentTentative => Kind::SweepSilentTentative,
+        other => panic!("{other:?} is no poll's of a sweep"),
     }
 }

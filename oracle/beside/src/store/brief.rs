@@ -1,9 +1,30 @@
 //! A call in few words, for a reader.
-use super::calls::{Call, Form};
+use super::calls::{Call, Form, Sweep};
 
-/// A call in few words: of a hash or address its first byte and, behind a dot, its last.
+/// The first byte of a hash or an address and, behind a dot, its last.
+fn short(bytes: &[u8]) -> String {
+    format!("{:02x}.{:02x}", bytes[0], bytes[bytes.len() - 1])
+}
+
+/// A list of numbers, or how many there are.
+fn few(list: &[u64]) -> String {
+    match list.len() {
+        0..=20 => format!("{list:?}"),
+        many => format!("{many} numbers"),
+    }
+}
+
+/// The senders of a sweep, or how many bytes they are, and its other lists.
+fn swept(s: &Sweep) -> String {
+    let senders = match s.senders.len() {
+        0..=200 => s.senders.chunks(20).map(short).collect::<Vec<String>>().join(" "),
+        bytes => format!("{bytes} bytes"),
+    };
+    format!("sweep [{senders}] heads {} counts {} nonces {}", few(&s.heads), few(&s.counts), few(&s.nonces))
+}
+
+/// A call in few words.
 pub fn brief(call: &Call) -> String {
-    let short = |bytes: &[u8]| format!("{:02x}.{:02x}", bytes[0], bytes[bytes.len() - 1]);
     match call {
         Call::Push(f) => format!(
             "push hash {} from {} expected {} claim {} chain_id {} gas {} ticket {}",
@@ -27,9 +48,9 @@ pub fn brief(call: &Call) -> String {
                     format!("content {:?} {}", c.nonces, hashes.join(" "))
                 }
             };
-            let known = if known.len() > 20 { format!("{} nonces", known.len()) } else { format!("{known:?}") };
-            format!("{name} {} head {head} known {known} {content}", short(sender))
+            format!("{name} {} head {head} known {} {content}", short(sender), few(known))
         }
+        Call::Sweep(s) => swept(s),
         Call::Guard(g) => {
             let hashes: Vec<String> = g.content.chunks(32).map(short).collect();
             let kind = match g.boundary {

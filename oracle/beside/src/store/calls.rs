@@ -39,6 +39,36 @@ pub struct GuardCall {
     pub content: Vec<u8>,
 }
 
+/// The lists of a sweep, as lent: the sender bytes need not be 20 for each head, nor the counts sum to the number of nonces.
+#[derive(Clone, Debug, Default, PartialEq, Eq)]
+pub struct Sweep {
+    pub senders: Vec<u8>,
+    pub heads: Vec<u64>,
+    pub counts: Vec<u64>,
+    pub nonces: Vec<u64>,
+}
+
+impl Sweep {
+    /// One more sender, with its head and its nonces.
+    pub fn list(&mut self, sender: Address, head: u64, nonces: &[u64]) {
+        self.senders.extend_from_slice(&sender);
+        self.heads.push(head);
+        self.counts.push(nonces.len() as u64);
+        self.nonces.extend_from_slice(nonces);
+    }
+
+    /// The polls that a sweep is read as, which is not refused.
+    pub fn polls(&self) -> Vec<Call> {
+        let mut nonces = self.nonces.iter().copied();
+        let each = self.senders.chunks_exact(20).zip(&self.heads).zip(&self.counts);
+        let poll = |((sender, head), count): ((&[u8], &u64), &u64)| {
+            let known = nonces.by_ref().take(*count as usize).collect();
+            Call::poll(sender.try_into().expect("20 bytes"), *head, known, None)
+        };
+        each.map(poll).collect()
+    }
+}
+
 /// How a poll writes its rows: as 19 numbers, or as five.
 #[derive(Clone, Copy, Debug, PartialEq, Eq)]
 pub enum Form {
@@ -50,6 +80,7 @@ pub enum Form {
 pub enum Call {
     Push(Frame),
     Poll { form: Form, sender: Address, head: u64, known: Vec<u64>, content: Option<Content> },
+    Sweep(Sweep),
     Guard(GuardCall),
     Enter { hash: Hash, consumed: Consumed },
     Reorg { block: u64, hash: Option<Hash> },
@@ -67,6 +98,13 @@ pub enum Call {
 }
 
 impl Call {
+    /// A sweep of these senders, each with its head and its nonces.
+    pub fn sweep(senders: &[(Address, u64, &[u64])]) -> Call {
+        let mut sweep = Sweep::default();
+        senders.iter().for_each(|(sender, head, nonces)| sweep.list(*sender, *head, nonces));
+        Call::Sweep(sweep)
+    }
+
     /// A poll with long rows.
     pub fn poll(sender: Address, head: u64, known: Vec<u64>, content: Option<Content>) -> Call {
         Call::Poll { form: Form::Long, sender, head, known, content }
@@ -86,6 +124,7 @@ impl Call {
             Call::Push(_) => "CP",
             Call::Poll { form: Form::Long, .. } => "CQ",
             Call::Poll { form: Form::Short, .. } => "CM",
+            Call::Sweep(_) => "CW",
             Call::Guard(_) => "CG",
             Call::Enter { .. } => "CE",
             Call::Reorg { .. } => "CR",
@@ -109,6 +148,7 @@ impl Call {
             self,
             Call::Push(_)
                 | Call::Poll { .. }
+                | Call::Sweep(_)
                 | Call::Guard(_)
                 | Call::Enter { .. }
                 | Call::Reorg { .. }

@@ -1,7 +1,7 @@
-//! The store's comparisons: random scripts, all short runs, and the wrong rules.
+//! The store's comparisons: random scripts, all short runs, the largest sweeps, and the wrong rules.
 use super::answers::Answer;
 use super::brief::brief;
-use super::calls::{Call, Side};
+use super::calls::{Address, Call, Frame, Side, Sweep};
 use super::due::Due;
 use super::model::Model;
 use super::original::Original;
@@ -167,6 +167,34 @@ pub fn random(seed: u64, calls: usize, replay: Option<&Replay>) -> Counts {
         next += 1;
     }
     comparison.finish();
+    comparison.counts
+}
+
+/// So many frames of one sender, with a gap of sixteen.
+fn pushes(sender: Address, count: u64) -> Vec<Call> {
+    let frame = |ticket| Frame { hash: [7; 32], from: sender, expected: 5, claim: 21, chain_id: 1, gas: 21_000, ticket };
+    (0..count).map(|ticket| Call::Push(frame(ticket))).collect()
+}
+
+/// The largest sweeps that a script has room for: a sender of 64 frames listed 64 times, which has 4,096 rows; 31 senders with 256
+/// nonces each, of which only the last are of the gap; and no sender with 8,190 nonces.
+pub fn largest_sweeps(replay: Option<&Replay>) -> Counts {
+    let sender = [1; 20];
+    let mut rows = pushes(sender, 64);
+    rows.push(Call::sweep(&[(sender, 5, &[][..]); 64]));
+    let known: Vec<u64> = (1000..1240).chain(5..21).collect();
+    let mut nonces = pushes(sender, 1);
+    let mut sweep = Sweep::default();
+    (0..31).for_each(|i| sweep.list(if i == 30 { sender } else { [2; 20] }, 5, &known));
+    nonces.push(Call::Sweep(sweep));
+    let unlisted = vec![Call::Sweep(Sweep { nonces: vec![5; 8190], ..Sweep::default() })];
+    let mut comparison = Comparison::new(replay);
+    for mut calls in [rows, nonces, unlisted] {
+        calls.push(Call::Len);
+        comparison.script(Script { calls, broken: Vec::new() });
+    }
+    comparison.finish();
+    assert_eq!(comparison.counts.scripts, 3, "a script has room for each");
     comparison.counts
 }
 

@@ -1,6 +1,6 @@
 //! Random scripts aimed at the corners: few senders and hashes, nonces close together or near 2^64, heads at the claim,
 //! guards that match or nearly match, revivals, hashes pushed twice and by two senders, calls at the limits and past them, polls
-//! in both forms.
+//! in both forms, and sweeps.
 //! The script's maker plays its calls on the model, so that it can aim at what the store holds.
 use super::answers::{Entry, State};
 use super::calls::{Address, Call, Consumed, Content, Form, Frame, GuardCall, Hash, Side};
@@ -9,9 +9,12 @@ use super::script::{read_script, write_call, Script};
 use crate::random::Random;
 
 mod limits;
+mod sweeps;
 
 struct Maker {
     r: Random,
+    /// Whether there are sweeps among its calls.
+    sweeps: bool,
     senders: Vec<Address>,
     hashes: Vec<Hash>,
     blocks: Vec<u64>,
@@ -23,10 +26,24 @@ struct Maker {
     calls: Vec<Call>,
 }
 
-/// The script of a seed, in which about one poll of three is short. Which ones is drawn apart, and a poll does the same to the
-/// store in both forms, so the script is otherwise the seed's long one, and as well aimed.
+/// The script of a seed, with sweeps, and in which about one poll of three is short.
 pub fn script(seed: u64) -> Script {
-    let mut script = long_script(seed);
+    with_short(seed, made(seed, true))
+}
+
+/// The script of a seed without sweeps.
+pub fn unswept_script(seed: u64) -> Script {
+    with_short(seed, long_script(seed))
+}
+
+/// The script of a seed without sweeps and with long polls only.
+pub fn long_script(seed: u64) -> Script {
+    made(seed, false)
+}
+
+/// About one poll of three becomes short. Which ones is drawn apart, and a poll does the same to the store in both forms, so the
+/// script is otherwise as it was, and as well aimed.
+fn with_short(seed: u64, mut script: Script) -> Script {
     let mut r = Random::new(seed ^ 0x5407);
     for call in &mut script.calls {
         if let Call::Poll { form, .. } = call {
@@ -39,9 +56,9 @@ pub fn script(seed: u64) -> Script {
     script
 }
 
-/// The script of a seed, with long polls only.
-pub fn long_script(seed: u64) -> Script {
-    let mut m = Maker::new(seed);
+/// The calls of a seed, with sweeps among them or without, in which all polls are long.
+fn made(seed: u64, sweeps: bool) -> Script {
+    let mut m = Maker::new(seed, sweeps);
     let length = 6 + m.r.index(60);
     if m.r.once_in(30) {
         m.fill_store();
@@ -94,7 +111,7 @@ fn predecessors(f: &Frame, head: u64) -> Vec<u64> {
 }
 
 impl Maker {
-    fn new(seed: u64) -> Self {
+    fn new(seed: u64, sweeps: bool) -> Self {
         let mut r = Random::new(seed);
         let senders = 1 + r.index(3);
         let hashes = 1 + r.index(4);
@@ -114,6 +131,7 @@ impl Maker {
             ticket: 0,
             model: Model::default(),
             calls: Vec::new(),
+            sweeps,
             r,
         }
     }
@@ -597,6 +615,9 @@ impl Maker {
     }
 
     fn scene(&mut self) {
+        if self.sweeps && self.r.once_in(6) {
+            return self.sweep();
+        }
         match self.r.below(20) {
             0..=4 => self.push(),
             5..=7 => self.poll(),

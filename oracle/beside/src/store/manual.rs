@@ -1,5 +1,5 @@
 //! The scripts that README.md and docs/ANSWERS.md show: the life of one frame, and the answers of each call.
-use super::calls::{Address, Call, Consumed, Content, Frame, GuardCall, Hash};
+use super::calls::{Address, Call, Consumed, Content, Frame, GuardCall, Hash, Sweep};
 
 const A: Address = [1; 20];
 const B: Address = [2; 20];
@@ -303,8 +303,50 @@ fn short_scripts() -> Vec<Vec<Call>> {
     ]
 }
 
-/// The scripts of docs/ANSWERS.md, by call; those with short polls stand last.
+/// A sweep of sender A, or of it and others, with lists that may not agree.
+fn lists(senders: &[u8], heads: &[u64], counts: &[u64], nonces: &[u64]) -> Call {
+    Call::Sweep(Sweep { senders: senders.to_vec(), heads: heads.to_vec(), counts: counts.to_vec(), nonces: nonces.to_vec() })
+}
+
+fn sweep_scripts() -> Vec<Vec<Call>> {
+    let g = || push(G, B, 5, 8, 8);
+    // A and behind it so many senders that have no frame
+    let with_nobody = |n: usize| [A.to_vec(), C.repeat(n)].concat();
+    let of_one = |count: u64, nonces: usize| lists(&A, &[9], &[count], &vec![5; nonces]);
+    vec![
+        // one waits and one is rescued; the same polls apart
+        vec![f(), g(), Call::sweep(&[(A, 5, &[5, 7]), (B, 5, &[5, 6, 7])]), Call::Len],
+        vec![f(), g(), poll(5, &[5, 7]), poll_of(B, 5, [5, 6, 7], None), Call::Len],
+        // a sender twice: waiting and then rescued; rescued, and then gone
+        vec![f(), Call::sweep(&[(A, 5, &[]), (A, 8, &[])]), Call::Len],
+        vec![f(), Call::sweep(&[(A, 8, &[]), (A, 8, &[])]), Call::Len],
+        // degraded: silent at the head that it was last held at
+        vec![f_with(0, 0), Call::sweep(&[(A, 5, &[]), (A, 5, &[]), (A, 6, &[])])],
+        // a sender with no frame, and no sender
+        vec![f(), Call::sweep(&[(C, 9, &[]), (A, 9, &[])]), Call::sweep(&[])],
+        // a guard holds no rescue where no content comes
+        vec![f(), guard(F, Some(5), &[7], &H), Call::sweep(&[(A, 7, &[7])]), Call::Len],
+        // 17: 65 senders, 19 and 21 sender bytes, a head more, a count more; 17 before 18; 64 senders
+        vec![
+            f(),
+            lists(&with_nobody(64), &[9; 65], &[0; 65], &[]),
+            lists(&A[..19], &[9], &[0], &[]),
+            lists(&[1; 21], &[9], &[0], &[]),
+            lists(&with_nobody(1), &[9, 9], &[0], &[]),
+            lists(&A, &[9], &[0, 0], &[]),
+            lists(&A, &[9], &[0, 0], &[5]),
+            lists(&with_nobody(63), &[9; 64], &[0; 64], &[]),
+        ],
+        // 18: a nonce more, a nonce less, a sum that is 1 in 64 bits only
+        vec![f(), of_one(1, 2), of_one(1, 0), lists(&with_nobody(1), &[9, 9], &[u64::MAX, 2], &[5]), of_one(1, 1)],
+        // 3; 18 before 3; 256 nonces
+        vec![f(), of_one(257, 257), of_one(257, 256), of_one(256, 256)],
+    ]
+}
+
+/// The scripts of docs/ANSWERS.md, by call; those with short polls stand behind the others, and those with sweeps last.
 pub fn answers() -> Vec<Vec<Call>> {
-    [push_scripts(), poll_scripts(), guard_scripts(), block_scripts(), reading_scripts(), corner_scripts(), short_scripts()]
-        .concat()
+    let long =
+        [push_scripts(), poll_scripts(), guard_scripts(), block_scripts(), reading_scripts(), corner_scripts()].concat();
+    [long, short_scripts(), sweep_scripts()].concat()
 }

@@ -33,8 +33,8 @@ fn enter(hash: Hash, kind: u8, block: u64) -> Call {
     Call::Enter { hash, consumed: Consumed { kind, block, block_hash: BLOCK, taker } }
 }
 
-/// Two senders, of whom B also pushes A's hash; a degraded frame; a short poll among long ones; guards with and without
-/// predecessors.
+/// Two senders, of whom B also pushes A's hash; a degraded frame; a short poll among long ones, and a sweep of both senders; guards
+/// with and without predecessors.
 pub fn menu() -> Vec<Call> {
     vec![
         frame(H, A, 8, 1, 1),
@@ -45,6 +45,7 @@ pub fn menu() -> Vec<Call> {
         poll(A, 8, &[], &[9]),
         poll(A, 9, &[], &[]),
         poll(B, 5, &[5, 6, 7], &[]),
+        Call::sweep(&[(B, 8, &[]), (A, 7, &[7])]),
         guard(Some(5), &[7]),
         guard(None, &[]),
         enter(H, 1, 100),

@@ -1,12 +1,13 @@
 //! Document 01's store in plain Rust, written from the document: one list of entries in walk order, one list of guards. With an
 //! entry that was found by its hash it answers sender and place, written from request 2027-02; short rows are written from
-//! request 2027-03. A wrong rule may be planted in it.
+//! request 2027-03, and sweeps from request 2027-05. A wrong rule may be planted in it.
 use super::answers::{Answer, Dump, Entry, Guard, Row, State, Whose};
 use super::calls::{Address, Call, Consumed, Content, Form, Frame, GuardCall, Hash, Side};
 use super::refusals;
 use super::wrong::Wrong;
 
 mod short;
+mod sweep;
 
 #[derive(Clone, Default)]
 pub struct Model {
@@ -25,9 +26,10 @@ struct OfHash {
     last_tracked: Option<usize>,
 }
 
-/// The inputs of a poll, and the guards as they stood when it began.
+/// The inputs of a poll, whether it is one of a sweep, and the guards as they stood when it began.
 struct Poll<'a> {
     form: Form,
+    swept: bool,
     head: u64,
     known: &'a [u64],
     content: Option<&'a Content>,
@@ -66,6 +68,11 @@ impl Model {
     /// Whether a wrong rule for short polls is planted, and this is one.
     fn plants_in(&self, form: Form, wrong: Wrong) -> bool {
         form == Form::Short && self.plants(wrong)
+    }
+
+    /// Whether a wrong rule for short polls or for those of a sweep is planted, and this is such a one.
+    fn plants_for(&self, poll: &Poll, short: Wrong, swept: Wrong) -> bool {
+        self.plants_in(poll.form, short) || poll.swept && self.plants(swept)
     }
 
     // ---- a frame
@@ -117,9 +124,9 @@ impl Model {
         self.guards.retain(|g| g.hash != hash);
     }
 
-    fn content_matches(&self, guarded: &[Hash], predecessors: &[u64], content: Option<&Content>) -> bool {
-        let Some(content) = content else {
-            return self.plants(Wrong::GuardNoContentMatches);
+    fn content_matches(&self, guarded: &[Hash], predecessors: &[u64], poll: &Poll) -> bool {
+        let Some(content) = poll.content else {
+            return self.plants(Wrong::GuardNoContentMatches) || poll.swept && self.plants(Wrong::SweepGuardMatches);
         };
         if guarded.is_empty() || content.nonces.is_empty() {
             return self.plants(Wrong::GuardEmptyContentMatches);
@@ -139,14 +146,14 @@ impl Model {
         })
     }
 
-    fn guard_matches(&self, g: &Guard, f: &Frame, head: u64, content: Option<&Content>) -> bool {
-        let predecessors = self.predecessors(f, head);
+    fn guard_matches(&self, g: &Guard, f: &Frame, poll: &Poll) -> bool {
+        let predecessors = self.predecessors(f, poll.head);
         if self.plants(Wrong::GuardNotAtFrontier) && g.boundary.is_none() && predecessors.is_empty() {
             return false;
         }
         let boundary = match g.boundary {
             Some(_) if self.plants(Wrong::GuardIgnoresBoundary) => true,
-            Some(boundary) if self.plants(Wrong::GuardBoundaryIsHead) => boundary == head,
+            Some(boundary) if self.plants(Wrong::GuardBoundaryIsHead) => boundary == poll.head,
             Some(boundary) => boundary == f.expected,
             None => true,
         };
@@ -155,7 +162,7 @@ impl Model {
             Some(Wrong::GuardPredecessorsPrefix) => predecessors.starts_with(&g.predecessors),
             _ => g.predecessors == predecessors,
         };
-        same && boundary && self.content_matches(&g.content, &predecessors, content)
+        same && boundary && self.content_matches(&g.content, &predecessors, poll)
     }
 
     fn guard(&mut self, call: &GuardCall) -> Answer {
@@ -190,15 +197,8 @@ impl Model {
             return Answer::Refused(number);
         }
         let before = self.plants_in(form, Wrong::ShortStoreStays).then(|| self.clone());
-        let poll = Poll { form, head, known, content, start: self.guards.clone() };
-        let mut rows = Vec::new();
-        let mut kept = Vec::new();
-        for mut entry in std::mem::take(&mut self.entries) {
-            if entry.frame.from != sender || self.poll_entry(&mut entry, &poll, &mut rows) {
-                kept.push(entry);
-            }
-        }
-        self.entries = kept;
+        let poll = Poll { form, swept: false, head, known, content, start: self.guards.clone() };
+        let rows = self.poll_sender(sender, &poll);
         if let Some(before) = before {
             *self = before;
         }
@@ -206,6 +206,19 @@ impl Model {
             Form::Long => Answer::Rows(rows.iter().map(row).collect()),
             Form::Short => Answer::Short(rows.iter().map(|said| self.short_row(said, &poll)).collect()),
         }
+    }
+
+    /// What the rules say of the sender's entries, of which some leave.
+    fn poll_sender(&mut self, sender: Address, poll: &Poll) -> Vec<Said> {
+        let mut rows = Vec::new();
+        let mut kept = Vec::new();
+        for mut entry in std::mem::take(&mut self.entries) {
+            if entry.frame.from != sender || self.poll_entry(&mut entry, poll, &mut rows) {
+                kept.push(entry);
+            }
+        }
+        self.entries = kept;
+        rows
     }
 
     /// Rules 1 to 7 for one entry of the sender; whether it stays.
@@ -229,7 +242,7 @@ impl Model {
         // 4 is in `gap`, `predecessors` and `unknown`
         let guards = if self.plants(Wrong::GuardsAsAtStart) { &poll.start } else { &self.guards };
         let guard = Self::guard_of(guards, f.hash);
-        let guarded = guard.is_some_and(|g| self.guard_matches(g, &f, poll.head, poll.content));
+        let guarded = guard.is_some_and(|g| self.guard_matches(g, &f, poll));
         // 5
         if !(unknown.is_empty() || self.plants(Wrong::GuardBeforeUnknown) && guarded) {
             rows.push(said(&f, 3, &unknown));
@@ -242,10 +255,11 @@ impl Model {
         }
         // 7
         rows.push(said(&f, 1, &predecessors));
-        if !self.plants(Wrong::GuardStaysAtRescue) && !self.plants_in(poll.form, Wrong::ShortGuardStays) {
+        if !self.plants(Wrong::GuardStaysAtRescue) && !self.plants_for(poll, Wrong::ShortGuardStays, Wrong::SweepGuardStays)
+        {
             self.drop_guard(f.hash);
         }
-        self.plants_in(poll.form, Wrong::ShortRescueStays)
+        self.plants_for(poll, Wrong::ShortRescueStays, Wrong::SweepRescueStays)
     }
 
     /// Rule 2.
@@ -264,7 +278,7 @@ impl Model {
             _ => entry.held != Some(head),
         };
         if reported {
-            if !self.plants_in(poll.form, Wrong::ShortHeldStays) {
+            if !self.plants_for(poll, Wrong::ShortHeldStays, Wrong::SweepHeldStays) {
                 entry.held = Some(head);
             }
             rows.push(match self.wrong {
@@ -485,6 +499,7 @@ impl Side for Model {
         match call {
             Call::Push(f) => self.push(f),
             Call::Poll { form, sender, head, known, content } => self.poll(*form, *sender, *head, known, content.as_ref()),
+            Call::Sweep(s) => self.sweep(s),
             Call::Guard(g) => self.guard(g),
             Call::Enter { hash, consumed } => self.enter(*hash, *consumed),
             Call::Reorg { block, hash } => self.reorg(*block, *hash),

@@ -1,11 +1,13 @@
 //! The order rule, tried on the Rust itself, with sender and place from the model: random lists of calls and legal reorderings.
 //! Its condition: the same reorganisation and finality calls stand in the same order, and before, between and after them
-//! each sender has the same calls in the same order. A guard or an entering is the call of the sender that pushes its hash.
-use super::answers::Answer;
+//! each sender has the same calls in the same order. A guard or an entering is the call of the sender that pushes its hash. A sweep
+//! is read as its polls, and a refused one as no call: in one order it is made as a sweep, in the other its polls are made apart.
+use super::answers::{Answer, Row};
 use super::calls::{Address, Call, Hash, Side};
 use super::due::Due;
 use super::generate;
 use super::model::Model;
+use super::original::Original;
 use super::wrong::Wrong;
 use crate::random::Random;
 use std::collections::BTreeMap;
@@ -18,7 +20,7 @@ enum Owner {
 }
 
 /// The calls of a generated script that change the store, with each hash pushed by one sender only.
-pub fn calls(seed: u64) -> Vec<Call> {
+fn calls(seed: u64) -> Vec<Call> {
     let mut owners: BTreeMap<Hash, Address> = BTreeMap::new();
     let mut calls: Vec<Call> = generate::script(seed).calls.into_iter().filter(Call::changes).collect();
     for call in &mut calls {
@@ -35,6 +37,29 @@ pub fn calls(seed: u64) -> Vec<Call> {
     calls
 }
 
+/// A call that is made for a place of the list: the call that stands there, or a poll of the sweep that does.
+struct Part {
+    place: usize,
+    swept: bool,
+    call: Call,
+}
+
+/// The list as it stands.
+fn whole(calls: &[Call]) -> Vec<Part> {
+    let part = |(place, call): (usize, &Call)| Part { place, swept: matches!(call, Call::Sweep(_)), call: call.clone() };
+    calls.iter().enumerate().map(part).collect()
+}
+
+/// The list as the rule reads it. Whether a sweep is refused does not hang on the store, but for want of room, which it has.
+fn read(calls: &[Call]) -> Vec<Part> {
+    let polls = |part: Part| match &part.call {
+        Call::Sweep(_) if matches!(Original::default().answer(&part.call), Answer::Refused(_)) => Vec::new(),
+        Call::Sweep(s) => s.polls().into_iter().map(|call| Part { call, ..part }).collect(),
+        _ => vec![part],
+    };
+    whole(calls).into_iter().flat_map(polls).collect()
+}
+
 fn owner(call: &Call, pushed: &BTreeMap<Hash, Address>) -> Option<Owner> {
     let of_hash = |hash: &Hash| match pushed.get(hash) {
         Some(sender) => Owner::Sender(*sender),
@@ -49,23 +74,23 @@ fn owner(call: &Call, pushed: &BTreeMap<Hash, Address>) -> Option<Owner> {
     }
 }
 
-/// The places of a list in another order that the condition allows.
-pub fn reordered(calls: &[Call], r: &mut Random) -> Vec<usize> {
-    let pushed: BTreeMap<Hash, Address> = calls
+/// The parts of a list in another order that the condition allows.
+fn reordered(parts: &[Part], r: &mut Random) -> Vec<usize> {
+    let pushed: BTreeMap<Hash, Address> = parts
         .iter()
-        .filter_map(|call| match call {
+        .filter_map(|part| match &part.call {
             Call::Push(f) => Some((f.hash, f.from)),
             _ => None,
         })
         .collect();
-    let mut order = Vec::with_capacity(calls.len());
+    let mut order = Vec::with_capacity(parts.len());
     let mut stretch: BTreeMap<Owner, Vec<usize>> = BTreeMap::new();
-    for (place, call) in calls.iter().enumerate() {
-        match owner(call, &pushed) {
-            Some(owner) => stretch.entry(owner).or_default().push(place),
+    for (index, part) in parts.iter().enumerate() {
+        match owner(&part.call, &pushed) {
+            Some(owner) => stretch.entry(owner).or_default().push(index),
             None => {
                 interleave(&mut stretch, &mut order, r);
-                order.push(place);
+                order.push(index);
             }
         }
     }
@@ -85,19 +110,37 @@ fn interleave(stretch: &mut BTreeMap<Owner, Vec<usize>>, order: &mut Vec<usize>,
     }
 }
 
-/// What each place of the list answers when the calls come in this order, and the store afterwards; none if a call is refused
-/// for want of room, which the rule leaves out. A push's total is not compared.
-fn answers(mut side: impl Side, calls: &[Call], order: &[usize]) -> Option<(Vec<Option<Answer>>, Answer)> {
-    let mut found = vec![None; calls.len()];
-    for place in order {
-        let answer = match side.answer(&calls[*place]) {
+/// What the places of a list answer, the rows of its sweeps, and the store afterwards.
+#[derive(Debug, PartialEq)]
+struct Found {
+    answers: BTreeMap<usize, Answer>,
+    swept: BTreeMap<usize, Vec<Row>>,
+    store: Answer,
+}
+
+/// What is found when the parts come in this order; none if a call is refused for want of room, which the rule leaves out. A
+/// push's total is not compared, and a sweep that is refused is no call.
+fn found(mut side: impl Side, parts: &[Part], order: &[usize]) -> Option<Found> {
+    let mut each = vec![None; parts.len()];
+    for index in order {
+        each[*index] = match side.answer(&parts[*index].call) {
             Answer::Refused(2 | 8) => return None,
-            Answer::Total(_) => Answer::Total(0),
-            answer => answer,
+            Answer::Total(_) => Some(Answer::Total(0)),
+            answer => Some(answer),
         };
-        found[*place] = Some(answer);
     }
-    Some((found, side.answer(&Call::Dump)))
+    let (mut answers, mut swept) = (BTreeMap::new(), BTreeMap::new());
+    for (part, answer) in parts.iter().zip(each.into_iter().flatten()) {
+        match answer {
+            Answer::Rows(rows) if part.swept && rows.is_empty() => {}
+            Answer::Rows(rows) if part.swept => swept.entry(part.place).or_insert(Vec::new()).extend(rows),
+            Answer::Refused(_) if part.swept => {}
+            answer => {
+                answers.insert(part.place, answer);
+            }
+        }
+    }
+    Some(Found { answers, swept, store: side.answer(&Call::Dump) })
 }
 
 pub enum Outcome {
@@ -105,28 +148,31 @@ pub enum Outcome {
     NoRoom,
     /// The other order is the same one.
     SameOrder,
-    /// The answers are the same, with short rows among them or without.
+    /// The answers are the same, with short rows or with rows of sweeps among them or without.
     Equal {
         short_rows: bool,
+        swept_rows: bool,
     },
     Different(String),
 }
 
 fn try_on<S: Side>(side: impl Fn() -> S, seed: u64) -> Outcome {
     let calls = calls(seed);
+    let (whole, parts) = (whole(&calls), read(&calls));
     let mut r = Random::new(seed ^ 0x0bde);
-    let given: Vec<usize> = (0..calls.len()).collect();
-    let other = reordered(&calls, &mut r);
-    let (Some(a), Some(b)) = (answers(side(), &calls, &given), answers(side(), &calls, &other)) else {
+    let given: Vec<usize> = (0..whole.len()).collect();
+    let other = reordered(&parts, &mut r);
+    let (Some(a), Some(b)) = (found(side(), &whole, &given), found(side(), &parts, &other)) else {
         return Outcome::NoRoom;
     };
     if a != b {
-        Outcome::Different(format!("list {seed}: {calls:?} in the order {other:?}: {a:?} / {b:?}"))
-    } else if given == other {
+        let places: Vec<usize> = other.iter().map(|index| parts[*index].place).collect();
+        Outcome::Different(format!("list {seed}: {calls:?} in the order {places:?}: {a:?} / {b:?}"))
+    } else if other.iter().copied().eq(0..parts.len()) {
         Outcome::SameOrder
     } else {
         let is_short = |answer: &Answer| matches!(answer, Answer::Short(rows) if !rows.is_empty());
-        Outcome::Equal { short_rows: a.0.iter().flatten().any(is_short) }
+        Outcome::Equal { short_rows: a.answers.values().any(is_short), swept_rows: !a.swept.is_empty() }
     }
 }
 
@@ -139,12 +185,18 @@ pub fn wrong_place_differs(seed: u64) -> bool {
     matches!(try_on(|| Model::with(Some(Wrong::PlaceOfAll)), seed), Outcome::Different(_))
 }
 
+/// Whether a sweep that gives each sender the first nonces, and so is not its polls, is told apart: it shows that the rows of
+/// sweeps are compared.
+pub fn wrong_sweep_differs(seed: u64) -> bool {
+    matches!(try_on(|| Model::with(Some(Wrong::SweepNoncesFromStart)), seed), Outcome::Different(_))
+}
+
 /// Whether the reverse of the list, which is no legal order, is told apart: it shows that the comparison can tell.
 pub fn reversed_differs(seed: u64) -> bool {
-    let calls = calls(seed);
-    let given: Vec<usize> = (0..calls.len()).collect();
+    let parts = whole(&calls(seed));
+    let given: Vec<usize> = (0..parts.len()).collect();
     let reversed: Vec<usize> = given.iter().rev().copied().collect();
-    match (answers(Due::default(), &calls, &given), answers(Due::default(), &calls, &reversed)) {
+    match (found(Due::default(), &parts, &given), found(Due::default(), &parts, &reversed)) {
         (Some(a), Some(b)) => a != b,
         _ => false,
     }

@@ -1,6 +1,6 @@
-//! The published store, unchanged, behind document 01's refusals, which it does not have.
+//! The published store, unchanged, behind document 01's refusals and those of request 2027-05, which it does not have.
 use super::answers::{Answer, Row, ShortRow, State};
-use super::calls::{Call, Consumed, Content, Form, Frame, GuardCall, Hash, Side};
+use super::calls::{Call, Consumed, Content, Form, Frame, GuardCall, Hash, Side, Sweep};
 use super::dump::dump;
 use alloy::primitives::{Address, Bytes, B256, U256};
 use published::gap_quarantine::{FrameState, NonceConsumed, ParkedFrame, Quarantine, QuarantineDecision};
@@ -126,6 +126,30 @@ impl Original {
         }
     }
 
+    /// The Rust has no sweep: this is one made of its polls, one after another, with their rows joined.
+    fn sweep(&mut self, s: &Sweep) -> Answer {
+        let senders = s.heads.len();
+        if senders > 64 || s.senders.len() != 20 * senders || s.counts.len() != senders {
+            return Answer::Refused(17);
+        }
+        if s.counts.iter().map(|count| u128::from(*count)).sum::<u128>() != s.nonces.len() as u128 {
+            return Answer::Refused(18);
+        }
+        if s.counts.iter().any(|count| *count > 256) {
+            return Answer::Refused(3);
+        }
+        let mut rows = Vec::new();
+        let mut left = &s.nonces[..];
+        for i in 0..senders {
+            let sender = Address(s.senders[20 * i..20 * i + 20].try_into().expect("20 bytes"));
+            let (known, rest) = left.split_at(s.counts[i] as usize);
+            let polled = self.quarantine.poll(sender, s.heads[i], known);
+            rows.extend(polled.iter().map(|(frame, decision)| row(frame, decision)));
+            left = rest;
+        }
+        Answer::Rows(rows)
+    }
+
     /// 64 guards are held, and none of this hash.
     fn guards_full(&self, hash: Hash) -> bool {
         if self.guarded.len() < 64 {
@@ -171,6 +195,7 @@ impl Side for Original {
             Call::Poll { form, sender, head, known, content } => {
                 self.poll(*form, Address(*sender), *head, known, content.as_ref())
             }
+            Call::Sweep(s) => self.sweep(s),
             Call::Guard(g) => self.guard(g),
             Call::Enter { hash, consumed } => {
                 Answer::Truth(self.quarantine.enter_tentative(B256(*hash), nonce_consumed(consumed)))

@@ -1,6 +1,7 @@
-//! Document 01's table of refusals for the store, in its order, and what wrong rules make of it.
+//! Document 01's table of refusals for the store, in its order, that of a sweep from request 2027-05, and what wrong rules make
+//! of them.
 use super::answers::{Entry, Guard, State};
-use super::calls::{Content, Form, Frame, GuardCall};
+use super::calls::{Content, Form, Frame, GuardCall, Sweep};
 use super::wrong::Wrong;
 
 /// Whether a number is over its limit, or over what a wrong rule makes of it: one more, or one less.
@@ -21,6 +22,12 @@ fn first(wrong: Option<Wrong>, table: &mut [(u8, bool)]) -> Option<u8> {
         Some(Wrong::SevenBeforeSix) => (6, 7),
         Some(Wrong::EightBeforeSix) => (6, 8),
         Some(Wrong::EightBeforeSeven) => (7, 8),
+        Some(Wrong::SweepEighteenFirst) => (17, 18),
+        Some(Wrong::SweepThreeFirst) => (17, 3),
+        Some(Wrong::SweepThreeBefore18) => (18, 3),
+        Some(Wrong::SweepFiveFirst) => (17, 5),
+        Some(Wrong::SweepFiveBefore18) => (18, 5),
+        Some(Wrong::SweepFiveBefore3) => (3, 5),
         _ => (0, 0),
     };
     let place = |number: u8| table.iter().position(|(n, _)| *n == number);
@@ -70,6 +77,53 @@ pub fn of_poll(wrong: Option<Wrong>, form: Form, known: &[u64], content: Option<
         unequal || over(wrong, c.nonces.len() as u64, 64, Wrong::PairsOneMore, Wrong::PairsOneLess)
     });
     first(wrong, &mut [(3, many && !never_3), (4, unfit && !never_4)])
+}
+
+/// Whether the sender bytes do not fit the heads, or the heads the counts.
+fn unequal(wrong: Option<Wrong>, s: &Sweep) -> bool {
+    let (bytes, heads, counts) = (s.senders.len(), s.heads.len(), s.counts.len());
+    let senders = match wrong {
+        Some(Wrong::SweepSendersIgnored) => false,
+        Some(Wrong::SweepSendersMore) => bytes < 20 * heads,
+        Some(Wrong::SweepSendersPart) => bytes / 20 != heads,
+        _ => bytes != 20 * heads,
+    };
+    let heads = match wrong {
+        Some(Wrong::SweepHeadsMore) => heads < counts,
+        Some(Wrong::SweepCountsMore) => heads > counts,
+        _ => heads != counts,
+    };
+    senders || heads
+}
+
+/// Whether the counts do not sum to the number of nonces. A sum of 128 bits does not wrap.
+fn other_sum(wrong: Option<Wrong>, s: &Sweep) -> bool {
+    let sum: u128 = s.counts.iter().map(|count| u128::from(*count)).sum();
+    let nonces = s.nonces.len() as u128;
+    match wrong {
+        Some(Wrong::SweepNoncesLeft) => sum > nonces,
+        Some(Wrong::SweepNoncesLacking) => sum < nonces,
+        Some(Wrong::SweepSumOf64Bits) => u128::from(sum as u64) != nonces,
+        Some(Wrong::SweepSumOf32Bits) => u128::from(sum as u32) != nonces,
+        _ => sum != nonces,
+    }
+}
+
+/// Of a sweep that needs so many numbers and is lent so many.
+pub fn of_sweep(wrong: Option<Wrong>, s: &Sweep, need: usize, lent: usize) -> Option<u8> {
+    let many = over(wrong, s.heads.len() as u64, 64, Wrong::SweepOneMore, Wrong::SweepOneLess);
+    let none = wrong == Some(Wrong::SweepNoneRefused) && s.heads.is_empty();
+    let big = match wrong {
+        Some(Wrong::SweepThreeInTurn) => false,
+        Some(Wrong::SweepThreeOfAll) => s.nonces.len() > 256,
+        _ => s.counts.iter().any(|count| over(wrong, *count, 256, Wrong::SweepCountOneMore, Wrong::SweepCountOneLess)),
+    };
+    let short = match wrong {
+        Some(Wrong::SweepFiveOneMore) => lent <= need,
+        Some(Wrong::SweepFiveOneLess) => lent + 1 < need,
+        _ => lent < need,
+    };
+    first(wrong, &mut [(17, many || none || unequal(wrong, s)), (18, other_sum(wrong, s)), (3, big), (5, short)])
 }
 
 pub fn of_guard(wrong: Option<Wrong>, g: &GuardCall, guards: &[Guard]) -> Option<u8> {

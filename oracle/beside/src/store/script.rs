@@ -1,6 +1,6 @@
 //! Scripts as bytes: calls one after another, and perhaps a broken call at the end.
 use super::answers::Answer;
-use super::calls::{Address, Call, Consumed, Content, Form, Frame, GuardCall, Hash, Side};
+use super::calls::{Address, Call, Consumed, Content, Form, Frame, GuardCall, Hash, Side, Sweep};
 use std::fmt::Write;
 
 /// The longest script and the longest standard input that `replay` takes.
@@ -88,6 +88,12 @@ pub fn write_call(call: &Call, out: &mut Vec<u8>) {
                     put_numbers(&c.nonces, out);
                     put_bytes(&c.hashes, out);
                 }
+            }
+        }
+        Call::Sweep(s) => {
+            put_bytes(&s.senders, out);
+            for list in [&s.heads, &s.counts, &s.nonces] {
+                put_numbers(list, out);
             }
         }
         Call::Guard(g) => {
@@ -205,6 +211,12 @@ impl<'a> Reader<'a> {
             }),
             b"CQ" => self.poll(Form::Long)?,
             b"CM" => self.poll(Form::Short)?,
+            b"CW" => Call::Sweep(Sweep {
+                senders: self.bytes()?,
+                heads: self.numbers()?,
+                counts: self.numbers()?,
+                nonces: self.numbers()?,
+            }),
             b"CG" => {
                 let kind = self.byte()?;
                 let hash = self.hash()?;

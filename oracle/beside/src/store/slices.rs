@@ -1,11 +1,13 @@
 //! What the program `short_slices` is to print: each call that lists, lent slices that are too short, just long enough or
 //! longer, and `is_empty`. The lists are the Rust's on the same stores; a call is refused 5 exactly where a slice is shorter
-//! than document 01's table says, or, for a short poll, request 2027-03.
+//! than document 01's table says, or, for a short poll, request 2027-03, and for a sweep request 2027-05. The model is lent the
+//! slices of the sweeps too; without a wrong rule its lines are the same, and with one that is for these slices another.
 use super::answers::Answer;
-use super::calls::{Address, Call, Consumed, Content, Form, Frame, Hash, Side};
+use super::calls::{Address, Call, Consumed, Content, Form, Frame, Hash, Side, Sweep};
+use super::model::Model;
 use super::original::Original;
+use super::wrong::Wrong;
 use crate::seen::{Kind, Seen};
-use std::fmt::Write;
 use std::path::Path;
 use std::process::Command;
 
@@ -15,6 +17,14 @@ enum Lists {
     PollWithContent,
     PollShort,
     PollShortWithContent,
+    Sweep,
+    SweepTwice,
+    SweepAfterRescue,
+    SweepOfTentative,
+    SweepOfNone,
+    SweepHeadMore,
+    SweepNonceMore,
+    SweepManyNonces,
     Evict,
     Reorg,
     Finality,
@@ -33,6 +43,21 @@ const LINES: &[(Lists, &[usize])] = &[
     (Lists::PollShort, &[10]),
     (Lists::PollShortWithContent, &[9]),
     (Lists::PollShortWithContent, &[10]),
+    (Lists::Sweep, &[37]),
+    (Lists::Sweep, &[38]),
+    // room for the sender once
+    (Lists::SweepTwice, &[38]),
+    (Lists::SweepTwice, &[75]),
+    (Lists::SweepTwice, &[76]),
+    (Lists::SweepAfterRescue, &[75]),
+    (Lists::SweepAfterRescue, &[76]),
+    (Lists::SweepOfTentative, &[37]),
+    (Lists::SweepOfTentative, &[38]),
+    // refused before 5
+    (Lists::SweepHeadMore, &[37]),
+    (Lists::SweepNonceMore, &[37]),
+    (Lists::SweepManyNonces, &[37]),
+    (Lists::SweepOfNone, &[0]),
     (Lists::Evict, &[1]),
     (Lists::Evict, &[2]),
     (Lists::Reorg, &[1]),
@@ -55,6 +80,8 @@ const LINES: &[(Lists, &[usize])] = &[
     (Lists::Evict, &[5]),
     (Lists::Reorg, &[5]),
     (Lists::Finality, &[9, 131]),
+    (Lists::Sweep, &[41]),
+    (Lists::SweepTwice, &[79]),
     (Lists::Blocks, &[5, 67]),
     (Lists::Senders, &[23]),
     (Lists::KnownGap, &[6]),
@@ -64,6 +91,8 @@ const LINES: &[(Lists, &[usize])] = &[
 const MARK: u64 = 170;
 
 const SENDER: Address = [1; 20];
+/// A sender with no frame, whose address differs in the last byte.
+const NOBODY: Address = [1, 1, 1, 1, 1, 1, 1, 1, 1, 1, 1, 1, 1, 1, 1, 1, 1, 1, 1, 2];
 const FIRST: Hash = [7; 32];
 const SECOND: Hash = [8; 32];
 
@@ -84,12 +113,16 @@ fn tentative(first: u64, second: u64) -> Vec<Call> {
     calls
 }
 
-fn made(calls: &[Call]) -> Original {
-    let mut store = Original::default();
+fn made<S: Side>(mut store: S, calls: &[Call]) -> S {
     calls.iter().for_each(|call| {
         store.answer(call);
     });
     store
+}
+
+/// A sweep of the sender with these heads, this count and these nonces, which may not agree.
+fn of_one(heads: &[u64], count: u64, nonces: &[u64]) -> Call {
+    Call::Sweep(Sweep { senders: SENDER.to_vec(), heads: heads.to_vec(), counts: vec![count], nonces: nonces.to_vec() })
 }
 
 impl Lists {
@@ -97,12 +130,21 @@ impl Lists {
     fn parts(self) -> (&'static str, Vec<Call>, Call) {
         let poll = |content| Call::poll(SENDER, 8, Vec::new(), content);
         let pair = Content { nonces: vec![7], hashes: vec![9; 32] };
+        let twice = |first, second| Call::sweep(&[(SENDER, first, &[]), (SENDER, second, &[])]);
         let gap = Call::KnownGap { sender: SENDER, head: 5, pending_count: 8 };
         match self {
             Lists::Poll => ("poll", tracked(), poll(None)),
             Lists::PollWithContent => ("poll_with_content", tracked(), poll(Some(pair))),
             Lists::PollShort => ("poll_short", tracked(), poll(None).short()),
             Lists::PollShortWithContent => ("poll_short_with_content", tracked(), poll(Some(pair)).short()),
+            Lists::Sweep => ("sweep", tracked(), Call::sweep(&[(SENDER, 8, &[]), (NOBODY, 8, &[])])),
+            Lists::SweepTwice => ("sweep of a sender twice", tracked(), twice(5, 8)),
+            Lists::SweepAfterRescue => ("sweep after a rescue", tracked(), twice(8, 8)),
+            Lists::SweepOfTentative => ("sweep of tentative frames", tentative(100, 100), Call::sweep(&[(SENDER, 8, &[])])),
+            Lists::SweepOfNone => ("sweep of no sender", tracked(), Call::sweep(&[])),
+            Lists::SweepHeadMore => ("sweep with a head more", tracked(), of_one(&[8, 8], 0, &[])),
+            Lists::SweepNonceMore => ("sweep with a nonce more", tracked(), of_one(&[8], 0, &[5])),
+            Lists::SweepManyNonces => ("sweep with 257 nonces", tracked(), of_one(&[8], 257, &[5; 257])),
             Lists::Evict => ("evict_sender", tracked(), Call::Evict { sender: SENDER }),
             Lists::Reorg => ("check_reorg", tentative(100, 100), Call::Reorg { block: 100, hash: None }),
             Lists::Finality => ("check_finalized", tentative(100, 100), Call::Finality { block: 100 }),
@@ -119,9 +161,10 @@ fn wide(bytes: &[u8]) -> Vec<u64> {
     bytes.iter().map(|b| u64::from(*b)).collect()
 }
 
-/// What a list is called, how many it lists, and what it leaves in the slices.
+/// What a list is called, how many it lists, and what it leaves in the slices. A sweep that is refused for its lists has none.
 fn laid(answer: &Answer) -> (&'static str, usize, Vec<Vec<u64>>) {
     match answer {
+        Answer::Refused(number) => ("refused", usize::from(*number), Vec::new()),
         Answer::Rows(rows) => ("rows", rows.len(), vec![rows.concat()]),
         Answer::Short(rows) => ("short", rows.len(), vec![rows.concat()]),
         Answer::Tickets(list) => ("tickets", list.len(), vec![list.clone()]),
@@ -141,16 +184,17 @@ fn laid(answer: &Answer) -> (&'static str, usize, Vec<Vec<u64>>) {
 }
 
 /// How long document 01's table wants the slices: a poll's 19 for each entry of the sender, the others as long as their lists. Of
-/// a short poll request 2027-03 wants five for each entry.
+/// a short poll request 2027-03 wants five for each entry, and of a sweep request 2027-05 wants 19 for each entry of each sender
+/// listed. A sweep that is refused for its lists wants nothing.
 fn due(call: &Call, lists: &[Vec<u64>], before: &mut Original) -> Vec<usize> {
-    match (call, before.answer(&Call::Dump)) {
-        (Call::Poll { form, sender, .. }, Answer::Dump(dump)) => {
-            let width = match form {
-                Form::Long => 19,
-                Form::Short => 5,
-            };
-            vec![width * dump.entries.iter().filter(|e| e.frame.from == *sender).count()]
-        }
+    let Answer::Dump(dump) = before.answer(&Call::Dump) else {
+        panic!("a dump answers so");
+    };
+    let entries_of = |sender: &[u8]| dump.entries.iter().filter(|e| e.frame.from == *sender).count();
+    match call {
+        Call::Poll { form: Form::Long, sender, .. } => vec![19 * entries_of(sender)],
+        Call::Poll { form: Form::Short, sender, .. } => vec![5 * entries_of(sender)],
+        Call::Sweep(s) if !lists.is_empty() => vec![19 * s.senders.chunks(20).map(entries_of).sum::<usize>()],
         _ => lists.iter().map(Vec::len).collect(),
     }
 }
@@ -163,13 +207,9 @@ fn kept(elements: &[u64]) -> &'static str {
     }
 }
 
-/// What is said of a slice of this length, whose list, if the call was not refused, was written.
-fn slice_text(lent: usize, list: &[u64], refused: bool, (name, longer, them): (&str, &str, &str)) -> String {
-    let mut slice = vec![MARK; lent];
-    if !refused {
-        slice[..list.len()].copy_from_slice(list);
-    }
-    let (list, past) = slice.split_at(list.len().min(lent));
+/// What is said of a slice, whose list has this length.
+fn slice_text(slice: &[u64], list: usize, (name, longer, them): (&str, &str, &str)) -> String {
+    let (list, past) = slice.split_at(list.min(slice.len()));
     match past.len() {
         0 => format!(", {name} {}", kept(list)),
         more => format!(", {longer} {}, {more} past {them} {}", kept(list), kept(past)),
@@ -179,36 +219,80 @@ fn slice_text(lent: usize, list: &[u64], refused: bool, (name, longer, them): (&
 const ONE: &[(&str, &str, &str)] = &[("slice", "list", "it")];
 const TWO: &[(&str, &str, &str)] = &[("numbers", "numbers", "them"), ("bytes", "bytes", "them")];
 
+/// The line of a call that left these slices, whose lists have these lengths. A sweep that is refused for its lists has none: all
+/// of its slice is told of at once.
+fn told(name: &str, answer: &str, slices: &[Vec<u64>], lists: &[Vec<u64>]) -> String {
+    let lengths: Vec<String> = slices.iter().map(|slice| slice.len().to_string()).collect();
+    let mut text = format!("{name} {}: {answer}", lengths.join(" and "));
+    let names = if slices.len() == 1 { ONE } else { TWO };
+    for (i, (slice, names)) in slices.iter().zip(names).enumerate() {
+        text += &slice_text(slice, lists.get(i).map_or(slice.len(), Vec::len), *names);
+    }
+    text
+}
+
+/// How many frames are held and tentative, before a call and after it.
+fn stores(before: &mut impl Side, after: &mut impl Side) -> String {
+    let mut number = |call: Call| format!("{} -> {}", before.answer(&call), after.answer(&call)).replace("number ", "");
+    format!(", held {}, tentative {}", number(Call::Len), number(Call::TentativeCount))
+}
+
+fn see_slices(seen: &mut Seen, call: &Call, refused: bool, exact: bool) {
+    seen.see(match (refused, call) {
+        (true, Call::Poll { form: Form::Short, .. }) => Kind::ShortPoll5,
+        (true, Call::Sweep(_)) => Kind::Sweep5,
+        (true, _) => Kind::List5,
+        (false, _) if exact => Kind::ListExact,
+        (false, _) => Kind::ListPast,
+    });
+}
+
 /// The line of one call.
 fn line(lists: Lists, lent: &[usize], seen: &mut Seen) -> String {
     let (name, calls, call) = lists.parts();
-    let (mut before, mut after) = (made(&calls), made(&calls));
-    let (word, count, slices) = laid(&after.answer(&call));
-    let due = due(&call, &slices, &mut before);
+    let store = || made(Original::default(), &calls);
+    let (mut before, mut after) = (store(), store());
+    let (word, count, lists) = laid(&after.answer(&call));
+    let due = due(&call, &lists, &mut before);
     let refused = lent.iter().zip(&due).any(|(lent, due)| lent < due);
+    let mut slices: Vec<Vec<u64>> = lent.iter().map(|length| vec![MARK; *length]).collect();
     if refused {
-        after = made(&calls);
+        after = store();
+    } else {
+        slices.iter_mut().zip(&lists).for_each(|(slice, list)| slice[..list.len()].copy_from_slice(list));
     }
-    seen.see(match refused {
-        true if matches!(call, Call::Poll { form: Form::Short, .. }) => Kind::ShortPoll5,
-        true => Kind::List5,
-        false if lent == due => Kind::ListExact,
-        false => Kind::ListPast,
-    });
-    let lengths: Vec<String> = lent.iter().map(usize::to_string).collect();
+    if !due.is_empty() {
+        see_slices(seen, &call, refused, lent == due);
+    }
     let answer = if refused { "refused 5".to_string() } else { format!("{word} {count}") };
-    let mut text = format!("{name} {}: {answer}", lengths.join(" and "));
-    let names = if slices.len() == 1 { ONE } else { TWO };
-    for ((lent, list), names) in lent.iter().zip(&slices).zip(names) {
-        text += &slice_text(*lent, list, refused, *names);
+    let text = told(name, &answer, &slices, &lists);
+    match call.changes() {
+        true => text + &stores(&mut before, &mut after),
+        false => text,
     }
-    if call.changes() {
-        let mut number = |call: Call| (before.answer(&call), after.answer(&call));
-        let shown = |(a, b): (Answer, Answer)| format!("{a} -> {b}").replace("number ", "");
-        write!(text, ", held {}", shown(number(Call::Len))).expect("a string takes all");
-        write!(text, ", tentative {}", shown(number(Call::TentativeCount))).expect("a string takes all");
-    }
-    text
+}
+
+/// The line of a sweep as the model has it, in which a wrong rule may be planted.
+fn model_line(name: &str, calls: &[Call], sweep: &Sweep, lent: usize, wrong: Option<Wrong>) -> String {
+    let (mut before, mut after) = (made(Model::with(wrong), calls), made(Model::with(wrong), calls));
+    let mut slice = vec![MARK; lent];
+    let answer = match after.sweep_in(sweep, &mut slice) {
+        Answer::Rows(rows) => format!("rows {}", rows.len()),
+        refused => refused.to_string(),
+    };
+    let (_, _, lists) = laid(&made(Original::default(), calls).answer(&Call::Sweep(sweep.clone())));
+    told(name, &answer, &[slice], &lists) + &stores(&mut before, &mut after)
+}
+
+/// The lines of sweeps that are due, beside those of the model with this wrong rule or none.
+pub fn beside_model(wrong: Option<Wrong>) -> Vec<(String, String)> {
+    let both = |(lists, lent): &(Lists, &[usize])| match lists.parts() {
+        (name, calls, Call::Sweep(sweep)) => {
+            Some((line(*lists, lent, &mut Seen::default()), model_line(name, &calls, &sweep, lent[0], wrong)))
+        }
+        _ => None,
+    };
+    LINES.iter().filter_map(both).collect()
 }
 
 fn empty_line(what: &str, store: &Original, seen: &mut Seen) -> String {
@@ -220,7 +304,7 @@ fn empty_line(what: &str, store: &Original, seen: &mut Seen) -> String {
 pub fn lines(seen: &mut Seen) -> Vec<String> {
     let mut lines: Vec<String> = LINES.iter().map(|(lists, lent)| line(*lists, lent, seen)).collect();
     lines.push(empty_line("an empty store", &Original::default(), seen));
-    lines.push(empty_line("a store of two", &made(&tracked()), seen));
+    lines.push(empty_line("a store of two", &made(Original::default(), &tracked()), seen));
     lines
 }
 

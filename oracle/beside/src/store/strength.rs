@@ -5,6 +5,7 @@ use super::calls::{Call, Side};
 use super::due::Due;
 use super::generate;
 use super::model::Model;
+use super::slices;
 use super::wrong::Wrong;
 use crate::shrink::shrink;
 
@@ -37,9 +38,13 @@ pub fn show(calls: &[Call], wrong: Option<Wrong>) {
 }
 
 /// A smallest list of calls, from the random scripts of these seeds, that tells a wrong rule by its answers. Only a rule for short
-/// polls is looked for in scripts that have them.
+/// polls or for sweeps is looked for in scripts that have them.
 pub fn smallest_for(wrong: Wrong, seed: u64, scripts: u64) -> Option<Vec<Call>> {
-    let script = if wrong.is_about_short() { generate::script } else { generate::long_script };
+    let script = match (wrong.is_about_sweeps(), wrong.is_about_short()) {
+        (true, _) => generate::script,
+        (_, true) => generate::unswept_script,
+        _ => generate::long_script,
+    };
     (seed..seed + scripts).find_map(|next| {
         let mut calls = script(next).calls;
         calls.retain(|call| *call != Call::Dump);
@@ -67,8 +72,25 @@ pub fn answered(seed: u64, scripts: u64) -> Vec<Answered> {
     (seed..seed + scripts).map(one).collect()
 }
 
+/// Tells a wrong rule for the slice of a sweep by the lines of `short_slices`. Says in how many of them it shows, and the first.
+fn catches_by_slices(wrong: Wrong, says: &str) -> bool {
+    let lines = slices::beside_model(Some(wrong));
+    let caught: Vec<&(String, String)> = lines.iter().filter(|(due, other)| due != other).collect();
+    let Some((due, other)) = caught.first() else {
+        println!("  NOT CAUGHT {wrong:?}: {says}");
+        return false;
+    };
+    println!("  {wrong:?}: {says}; shows in {} of {} lines of sweeps, first:", caught.len(), lines.len());
+    println!("      due:   {due}");
+    println!("      other: {other}");
+    true
+}
+
 /// Tells a wrong rule by an answer. Says in how many of the scripts it shows, and the smallest part of the first.
 pub fn catches(wrong: Wrong, says: &str, answered: &[Answered]) -> bool {
+    if wrong.is_about_slices() {
+        return catches_by_slices(wrong, says);
+    }
     let place = |a: &Answered| {
         let mut model = Model::with(Some(wrong));
         a.calls.iter().zip(&a.answers).position(|(call, due)| differ(Some(wrong), due, &model.answer(call)))

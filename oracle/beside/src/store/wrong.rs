@@ -1,6 +1,6 @@
 //! Wrong rules for the store, each planted alone into the model; the generated scripts must tell each from the Rust, those for
-//! short rows from what is made of its long ones, and those for sender and place, which the Rust does not tell, from the model
-//! without a wrong rule.
+//! short rows from what is made of its long ones, those for sweeps from its polls, and those for sender and place, which the Rust
+//! does not tell, from the model without a wrong rule. Those for the slice of a sweep are told by the lines of `short_slices`.
 
 sayings! { Wrong {
     ConsumedAtClaim: "a head equal to the claim consumes the nonce",
@@ -116,6 +116,70 @@ sayings! { Wrong {
     ShortHashBytesIgnored: "4: the hash bytes are not counted in a short poll",
     ShortFourBeforeThree: "4 comes before 3 in a short poll",
     ShortRefusedHolds: "a refused short poll sets the held heads",
+    // from here on, rules for sweeps
+    SweepOneMore: "17: a sweep takes 65 senders",
+    SweepOneLess: "17: 64 senders are refused to a sweep",
+    SweepNoneRefused: "17: a sweep of no sender is refused",
+    SweepSendersIgnored: "17: the sender bytes are not counted",
+    SweepSendersMore: "17: more sender bytes than 20 times the heads are taken",
+    SweepSendersPart: "17: a part of a sender behind the others is taken",
+    SweepHeadsMore: "17: more heads than counts are taken",
+    SweepCountsMore: "17: more counts than heads are taken",
+    SweepNoncesLeft: "18: counts that sum to less than the nonces are taken",
+    SweepNoncesLacking: "18: counts that sum to more than the nonces are taken",
+    SweepSumOf64Bits: "18: the counts are summed in 64 bits",
+    SweepSumOf32Bits: "18: the counts are summed in 32 bits",
+    SweepCountOneMore: "3: a sweep takes a count of 257",
+    SweepCountOneLess: "3: a count of 256 is refused to a sweep",
+    SweepThreeOfAll: "3: a sweep is refused by the nonces of all its senders together",
+    SweepThreeInTurn: "3: a sweep is refused when the poll's turn comes, behind those before it",
+    SweepEighteenFirst: "18 comes before 17",
+    SweepThreeFirst: "3 comes before 18, and 18 before 17",
+    SweepThreeBefore18: "3 comes before 18",
+    SweepRefusedPolls: "a refused sweep makes its polls",
+    SweepNoncesFromStart: "each sender takes its nonces from the start of the list",
+    SweepNoncesFromEnd: "the senders take their nonces from the end of the list",
+    SweepNoncesSoFar: "a sender takes the nonces of the senders before it too",
+    SweepNoncesToEnd: "a sender takes the nonces of the senders behind it too",
+    SweepAllNonces: "each sender takes all nonces",
+    SweepNoNonces: "a sweep's polls know no nonce",
+    SweepFirstCount: "each sender takes as many nonces as the first count says",
+    SweepFirstHead: "all senders are polled at the first head",
+    SweepHighestHead: "all senders are polled at the highest head",
+    SweepFirstOnly: "only the first sender is polled",
+    SweepLastLeftOut: "the last sender is not polled",
+    SweepTwiceFirst: "a sender that is listed twice is polled at its first place only",
+    SweepTwiceLast: "a sender that is listed twice is polled at its last place only",
+    SweepByAddress: "the senders are polled in ascending order of their addresses",
+    SweepReversed: "the senders are polled from the last to the first",
+    SweepNobodyEnds: "a sender with no entry ends the sweep",
+    SweepSilentEnds: "a poll without rows ends the sweep",
+    SweepRowsOver: "each poll writes its rows over those of the poll before",
+    SweepRowsByEntries: "a poll leaves room for each entry of the senders before it, with a row or without",
+    SweepAnswersFirst: "a sweep answers the rows of its first poll",
+    SweepAnswersLast: "a sweep answers the rows of its last poll",
+    SweepAnswersSenders: "a sweep answers the number of its senders",
+    SweepAnswersEntries: "a sweep answers the number of its senders' entries",
+    SweepRowsOfStart: "each poll tells the rows of the store as it was when the sweep began",
+    SweepStoreStays: "a sweep leaves the store as it was",
+    SweepStoreOfFirst: "a sweep keeps what its first poll does to the store",
+    SweepStoreOfLast: "each poll is made on the store as it was, and the last one's is kept",
+    SweepRescueStays: "a frame that a sweep rescues stays",
+    SweepGuardStays: "a rescue by a sweep keeps the guard",
+    SweepHeldStays: "a sweep sets no held head",
+    SweepGuardMatches: "in a sweep a guard matches by nonces and boundary",
+    // from here on, rules for the slice of a sweep
+    SweepFiveOneMore: "5: a slice just long enough is refused to a sweep",
+    SweepFiveOneLess: "5: a sweep takes a slice that is a number short",
+    SweepFiveOnce: "5: a sender that is listed twice needs room once",
+    SweepFiveOfTracked: "5: only tracked entries need room in a sweep",
+    SweepFiveOfRows: "5: only the rows that a sweep writes need room",
+    SweepFiveInTurn: "5: a sweep is refused when the poll's turn comes, behind those before it",
+    SweepFiveFirst: "5 comes before 17",
+    SweepFiveBefore18: "5 comes before 18",
+    SweepFiveBefore3: "5 comes before 3 in a sweep",
+    SweepRefusedClears: "a refused sweep clears the slice",
+    SweepPastCleared: "a sweep clears what lies past its rows",
     // from here on, rules for sender and place
     PlaceOfAll: "the place counts the entries of all senders",
     PlaceOfTracked: "the place counts tracked entries only",
@@ -134,7 +198,17 @@ sayings! { Wrong {
 impl Wrong {
     /// Whether the rule is for short polls alone.
     pub fn is_about_short(self) -> bool {
-        (Wrong::ShortBitFromOne..Wrong::PlaceOfAll).contains(&self)
+        (Wrong::ShortBitFromOne..Wrong::SweepOneMore).contains(&self)
+    }
+
+    /// Whether the rule is for sweeps alone.
+    pub fn is_about_sweeps(self) -> bool {
+        (Wrong::SweepOneMore..Wrong::PlaceOfAll).contains(&self)
+    }
+
+    /// Whether the rule is for the slice of a sweep, which no script tells.
+    pub fn is_about_slices(self) -> bool {
+        (Wrong::SweepFiveOneMore..Wrong::PlaceOfAll).contains(&self)
     }
 
     /// Whether the rule is for sender and place: these stand last.
