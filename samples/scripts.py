@@ -2,7 +2,7 @@
 """Writes sample scripts for `replay`.
 
 samples/scripts.py life | target/bin/replay    one script: the life of document 01's frame
-samples/scripts.py | target/bin/replay         document 01's examples of the store, each of its refusals that slices long enough
+samples/scripts.py | target/bin/replay         document 01's examples of the store, each refusal of the store that slices long enough
                                                leave, every call, and input that is not well formed
 """
 import struct
@@ -36,6 +36,16 @@ def poll(head, known=(), content=None, sender=A, mark=b"CQ"):
 
 def poll_short(head, known=(), content=None, sender=A):
     return poll(head, known, content, sender, b"CM")
+
+
+def sweep_lists(senders, heads, counts, nonces):
+    return b"CW" + octets(senders) + numbers(heads) + numbers(counts) + numbers(nonces)
+
+
+def sweep(*polls):
+    """A sweep of these polls: sender, head and known nonces of each."""
+    senders, heads, known = b"".join(s for s, _, _ in polls), [h for _, h, _ in polls], [list(k) for _, _, k in polls]
+    return sweep_lists(senders, heads, [len(k) for k in known], [n for k in known for n in k])
 
 
 def repark(preds, contents, boundary=5, hash_=F):
@@ -137,6 +147,23 @@ REFUSALS = [
     [repark(list(range(17)), H), repark([5], H + b"\1"), repark([5], H * 17), repark(list(range(16)), H * 16), DUMP],
     # 8: a 65th guard; a guard of a hash that has one
     [repark([5], H, hash_=numbered(n)) for n in range(65)] + [repark([6], H, hash_=numbered(7))],
+    # 17: 65 senders; a sender too short; a head without a count; 64 senders
+    [
+        push(),
+        sweep(*[(A, 9, ())] * 65),
+        sweep_lists(A[1:], [9], [0], []),
+        sweep_lists(A + B, [9, 9], [0], []),
+        sweep((A, 9, ()), *[(B, 9, ())] * 63),
+    ],
+    # 18: a nonce too many; one too few; counts that sum to 2^64 + 1; 3: 257 nonces for one sender, and 256
+    [
+        push(),
+        sweep_lists(A, [9], [1], [5, 6]),
+        sweep_lists(A, [9], [1], []),
+        sweep_lists(A + B, [9, 9], [LAST, 2], [5]),
+        sweep((A, 9, range(257))),
+        sweep((A, 9, range(256))),
+    ],
 ]
 
 CALLS = [
@@ -188,6 +215,16 @@ CALLS = [
         poll_short(5, (5, 6, 7)),
         DUMP,
     ],
+    # two senders in one sweep; one sender twice; one without a frame, and none
+    [
+        push(),
+        push(G, B, ticket=8),
+        sweep((A, 5, (5, 7)), (B, 5, (5, 6, 7))),
+        sweep((A, 9, ()), (A, 8, ())),
+        sweep((C, 5, ())),
+        sweep(),
+        DUMP,
+    ],
     # a held head survives a revival
     [push(chain=0, gas=0), poll(5), enter(1, 100), poll(6), reorg(100), poll(5), poll(6)],
 ]
@@ -196,6 +233,7 @@ BAD = [
     [b"CX"],
     [push(), b"DP"],
     [push(), poll(5)[:-1]],
+    [push(), sweep((A, 5, (5,)))[:-1]],
     [b"CG\3" + F],
     [enter(1, 100)[:-1]],
     [b"CR" + u64(1) + b"\2"],
