@@ -16,10 +16,12 @@ uint64_t store_bench_finality(uint64_t rounds);
 uint64_t store_bench_whole_waiting(uint64_t rounds);
 uint64_t gap_quarantine_polls(uint64_t rounds);
 uint64_t gap_quarantine_guarded_polls(uint64_t rounds);
+uint64_t gap_quarantine_sweeps(uint64_t rounds);
+uint64_t gap_quarantine_polls_in_turn(uint64_t rounds);
 uint64_t gap_quarantine_push_and_rescue(uint64_t rounds);
 uint64_t gap_quarantine_finality(uint64_t rounds);
 
-enum what { PUSH, WAITING, WAITING_SHORT, GUARDED, RESCUED, ENTER, EVICT, FINALITY, POLLS, WHOLE_POLLS, GUARDED_POLLS, PUSH_RESCUE, PUSH_ENTER_FINALITY };
+enum what { PUSH, WAITING, WAITING_SHORT, GUARDED, RESCUED, ENTER, EVICT, FINALITY, POLLS, WHOLE_POLLS, GUARDED_POLLS, SWEEPS, POLLS_IN_TURN, PUSH_RESCUE, PUSH_ENTER_FINALITY };
 
 static uint64_t run(enum what what, uint64_t frames, uint64_t rounds) {
     switch (what) {
@@ -34,6 +36,8 @@ static uint64_t run(enum what what, uint64_t frames, uint64_t rounds) {
     case POLLS: return gap_quarantine_polls(rounds);
     case WHOLE_POLLS: return store_bench_whole_waiting(rounds);
     case GUARDED_POLLS: return gap_quarantine_guarded_polls(rounds);
+    case SWEEPS: return gap_quarantine_sweeps(rounds);
+    case POLLS_IN_TURN: return gap_quarantine_polls_in_turn(64 * rounds);
     case PUSH_RESCUE: return gap_quarantine_push_and_rescue(rounds);
     default: return gap_quarantine_finality(rounds);
     }
@@ -149,6 +153,8 @@ int main(void) {
     tell("  poll, 8 frames wait", POLLS, 8);
     tell("  poll of the whole store, 8 frames wait", WHOLE_POLLS, 8);
     tell("  poll with content, 8 frames held by guards", GUARDED_POLLS, 8);
+    tell("  sweep of 64 senders, a frame each, which wait", SWEEPS, 64);
+    tell("  its 64 polls one by one", POLLS_IN_TURN, 64);
     tell("  push and rescue", PUSH_RESCUE, 1);
     tell("  push, enter and finality", PUSH_ENTER_FINALITY, 1);
     return 0;

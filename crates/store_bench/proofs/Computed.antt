@@ -14,8 +14,11 @@ use Rattle.store_rules.specs.Rules as rules
 use Rattle.store_rules.specs.Lookup as lookups
 use Rattle.store_rules.specs.Store as stores
 use Rattle.store_rules.specs.Answers as answers
-use Rattle.store_rules.specs.Store.{empty, push, short, checkFinalized}
-use Rattle.store_bench.specs.Loads.{frame, waiting, rescuing, guarded, mining, evicting, after, sizeOf, sized, pushed, guardedBy, toldIn, told, Goes}
+use Rattle.store_rules.specs.Answers.{said}
+use Rattle.store_rules.specs.Sweeps as sweeps
+use Rattle.store_rules.specs.Sweeps.{sweepStep}
+use Rattle.store_rules.specs.Store.{empty, push, long, short, checkFinalized}
+use Rattle.store_bench.specs.Loads.{frame, waiting, rescuing, guarded, mining, evicting, after, sizeOf, sized, pushed, guardedBy, lone, addresses, sweeping, counted, toldIn, told, Goes}
 
 -- the rounds whose store goes to the next, and calls on a store of 8 frames that is kept
 pub record Computed : Type 0 where
@@ -57,3 +60,12 @@ by-size false false = record { few = omega arith; waits = refl; waits-short = re
 
 pub at-size : (n : ℕ) → Polled (sized n)
 at-size n = by-size (ltb n 8) (ltb n 64)
+
+-- a sweep of 64 senders with a frame each
+pub record Swept : Type 0 where
+  pub store : sweepStep (lone 64) sweeping .0 ≡ lone 64
+  pub seen : counted (said long (sweepStep (lone 64) sweeping .1)) ≡ 64
+
+pub swept : Swept
+unfolding bytes.eqBytes bytes.leBytes lists.keep lists.isEmpty lists.isIn lists.numbersFrom lists.sum lists.chunks frames.degraded polls.gap polls.predecessors polls.unknown polls.guardMatches polls.stay polls.leave polls.row polls.pollFull polls.pollIn polls.pollGiven polls.pollRule rules.onlyOf stores.empty stores.guardOf stores.dropGuard stores.after stores.walk stores.walked stores.fresh stores.insert lookups.entriesOf stores.effect stores.when orElse stores.wideGap stores.badContent stores.inputRefusal stores.listed stores.rowsOf stores.roomRefusal stores.rowWidth stores.refusal stores.unless stores.step stores.run answers.said answers.numbersOf answers.rowNumbers answers.decisionNumber lists.collect sweeps.pollsFrom sweeps.inTurn sweeps.pollsIn sweeps.rowsListed sweeps.badLists sweeps.badSum sweeps.bigCount sweeps.sweepInputRefusal sweeps.listedEntries sweeps.sweepRoomRefusal sweeps.sweepRefusal sweeps.sweepEffect sweeps.sweepStep lone addresses
+swept = record { store = refl; seen = refl }

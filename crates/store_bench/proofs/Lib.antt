@@ -2,3 +2,4 @@ pub mod Computed
 pub mod Filling
 pub mod Performing
 pub mod Rounds
+pub mod Turns

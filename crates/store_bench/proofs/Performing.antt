@@ -8,7 +8,7 @@ use Rattle.store_rules.specs.Answers.{Said}
 use Rattle.answers.specs.Contracts.{Steps}
 use Rattle.store_bench.specs.Loads.{counted, toldIn, Goes}
 
-module _ {S : Type 0} {view : S → Store} {q q′ : S} {call : Call} {numbers bytes numbers′ bytes′ : List ℕ} {a : Said} where
+module _ {S : Type 0} {view : S → Store} {q q′ : S} (call : Call) {numbers bytes numbers′ bytes′ : List ℕ} {a : Said} where
   -- how many its answer tells of
   pub tells : {form : RowForm} → Steps view form q call numbers bytes a q′ numbers′ bytes′ → counted a ≡ toldIn form (view q) call (length numbers) (length bytes)
   tells p = ap counted (p .answer)

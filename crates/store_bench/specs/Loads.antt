@@ -1,5 +1,5 @@
 -- The stores that the loops run on, the calls that they make on them, and how many an answer tells of.
-use Prim.Native.Nat.{ℕ, zero, suc}
+use Prim.Native.Nat.{ℕ, zero, suc, _+_, _*_, _%_}
 use mathlib.Core.Path.{_≡_}
 use mathlib.Core.Bool.{Bool, true, false, cond}
 use mathlib.Core.List.{[], _∷_}
@@ -9,6 +9,7 @@ use lib.ListN.{set, replicate}
 use Rattle.lists.specs.Bytes.{Bytes}
 use Rattle.store_rules.specs.Frames.{Frame, mined, Guard, reparked}
 use Rattle.store_rules.specs.Store.{Store, empty, Call, RowForm, long, push, poll, guard, enterTentative, evictSender, step}
+use Rattle.store_rules.specs.Sweeps.{Sweep}
 use Rattle.store_rules.specs.View.{Bodies, bodiesOf, heldView}
 use Rattle.store_rules.specs.declared.Held.{Held}
 use Rattle.store_rules.specs.Answers.{Said, saysTotal, saysRows, saysRecorded, saysEntered, saysFrames, saysDead, saysRefused, said}
@@ -88,6 +89,29 @@ unfoldable pub guardedBy : ℕ → Store
 guardedBy zero = empty
 guardedBy (suc n) = after (after (guardedBy n) (push (frame n))) (guard (guardAt n))
 
+-- ---- 64 senders with a frame each
+
+abbrev pub senderAt : ℕ → Bytes
+senderAt n = set (replicate 20 1) 0 n
+
+-- document 01's frame F as the n-th sender's
+abbrev pub loneFrame : ℕ → Frame
+loneFrame n = record { hash = hashAt n; from = senderAt n; expected = 5; claim = 8; chainId = 1; gas = 21000; ticket = n }
+
+-- the frames of so many senders
+unfoldable pub lone : ℕ → Store
+lone zero = empty
+lone (suc n) = after (lone n) (push (loneFrame n))
+
+-- room for 64 addresses, with those of so many senders
+unfoldable pub addresses : ℕ → Bytes
+addresses zero = replicate 1280 1
+addresses (suc n) = set (addresses n) (20 * n) n
+
+-- at head 5, with only 6 of the gap known: every frame waits
+abbrev pub sweeping : Sweep
+sweeping = record { senders = addresses 64; heads = replicate 64 5; counts = replicate 64 1; nonces = replicate 64 6; numbers = 1216 }
+
 -- ---- answers
 
 -- the total, how many are listed, 1 for true; 0 for a guard or a refusal
@@ -107,6 +131,15 @@ toldIn form s call numbers bytes = counted (said form (step s (record { call = c
 -- with long rows
 abbrev pub told : Store → Call → ℕ → ℕ → ℕ
 told = toldIn long
+
+-- polls of the 64 senders one after another, each lent room for a row: the store after so many of them, and how many rows they
+-- told of in all
+unfoldable pub inTurn : ℕ → Store × ℕ
+inTurn zero = (lone 64, 0)
+inTurn (suc n) =
+    let s = inTurn n .0 in
+    let call = poll (senderAt (n % 64)) 5 (6 ∷ []) none in
+    (step s (record { call = call; form = long; numbers = 19; bytes = 0 }) .0, inTurn n .1 + told s call 19 0)
 
 -- such a call leads to this store, and tells of so many
 pub record Goes (s : Store) (call : Call) (numbers bytes : ℕ) (t : Store) (n : ℕ) : Type 0 where

@@ -2,16 +2,19 @@
 // many rows or frames the answers told of. All but one run on the held part of a store.
 ghost use mathlib.Core.Path.{_≡_};
 ghost use Prim.Native.Nat.{_*_, min};
-ghost use Rattle.store_bench.specs.Loads.{sized};
+ghost use Rattle.store_bench.specs.Loads.{inTurn, sized};
 use gap_quarantine::Held;
 use gap_quarantine::Quarantine;
 use once::Once;
 use once::held_back;
 use once::repeated;
+use stores::addresses;
 use stores::capped;
 use stores::counted;
 use stores::frame;
 use stores::guarded_store;
+use stores::lone_store;
+use stores::sender_at;
 use stores::sized;
 use stores::store_of;
 
@@ -93,6 +96,52 @@ pub extern "C" fn gap_quarantine_guarded_polls(rounds: u64) -> u64
             &hashes,
             &mut rows,
         );
+        h = r.held;
+        let answer = r.answer;
+        seen += counted(answer);
+        i += 1;
+    }
+    seen
+}
+
+// Sweeps of 64 senders with a frame each, which all wait.
+#[no_mangle]
+pub extern "C" fn gap_quarantine_sweeps(rounds: u64) -> u64
+    ensures { λ r. ⌜ r ≡ 64 * min rounds 4294967296 ⌝ }
+{
+    let limit = capped(rounds);
+    let senders = addresses();
+    let heads = [5u64; 64];
+    let counts = [1u64; 64];
+    let nonces = [6u64; 64];
+    let mut h = lone_store();
+    let mut seen: u64 = 0;
+    let mut i: u64 = 0;
+    while i < limit {
+        let mut rows = [0u64; 1216];
+        let r = gap_quarantine::sweep(h, &senders, &heads, &counts, &nonces, &mut rows);
+        h = r.held;
+        let answer = r.answer;
+        seen += counted(answer);
+        i += 1;
+    }
+    seen
+}
+
+// Polls of the same senders, one after another: a poll a round.
+#[no_mangle]
+pub extern "C" fn gap_quarantine_polls_in_turn(rounds: u64) -> u64
+    ensures { λ r. ⌜ r ≡ inTurn (min rounds 4294967296) .1 ⌝ }
+{
+    let limit = capped(rounds);
+    let known = [6u64; 1];
+    let mut h = lone_store();
+    let mut seen: u64 = 0;
+    let mut i: u64 = 0;
+    while i < limit {
+        let mut rows = [0u64; 19];
+        let sender = sender_at((i % 64) as u8);
+        let r = gap_quarantine::poll(h, sender, 5, &known, &mut rows);
         h = r.held;
         let answer = r.answer;
         seen += counted(answer);

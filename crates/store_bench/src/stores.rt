@@ -3,7 +3,7 @@ ghost use mathlib.Core.Path.{_≡_};
 ghost use Prim.Native.Nat.{min};
 ghost use Rattle.store_rules.specs.View.{frameOf, Bodies, bodiesOf, heldView};
 ghost use Rattle.answers.specs.Contracts.{heard};
-ghost use Rattle.store_bench.specs.Loads.{hashAt, frame, mining, after, pushed, guardedBy, sized, counted};
+ghost use Rattle.store_bench.specs.Loads.{hashAt, frame, mining, after, pushed, guardedBy, senderAt, loneFrame, lone, addresses, sized, counted};
 use gap_quarantine::Answer;
 use gap_quarantine::Held;
 use gap_quarantine::NonceConsumed;
@@ -70,6 +70,60 @@ pub(crate) fn frame(n: u8) -> ParkedFrame
         gas: 21000,
         ticket: n as u64,
     }
+}
+
+// The n-th of the senders with a frame each.
+pub(crate) fn sender_at(n: u8) -> [u8; 20]
+    ensures { λ r. ⌜ r ≡ senderAt n ⌝ }
+{
+    let mut address = [1u8; 20];
+    address[0] = n;
+    address
+}
+
+// Document 01's frame F as that sender's.
+fn lone_frame(n: u8) -> ParkedFrame
+    ensures { λ r. ⌜ frameOf r ≡ loneFrame n ⌝ }
+{
+    let hash = hash_at(n);
+    let from = sender_at(n);
+    ParkedFrame {
+        hash: hash,
+        from: from,
+        expected: 5,
+        claim: 8,
+        chain_id: 1,
+        gas: 21000,
+        ticket: n as u64,
+    }
+}
+
+// The frames of 64 senders.
+pub(crate) fn lone_store() -> Held
+    ensures { λ r. ⌜ ((bodies : Bodies) → heldView bodies r ≡ lone 64) ⌝ }
+{
+    let mut h = Held::new();
+    let mut i: u8 = 0;
+    while i < 64 {
+        let r = gap_quarantine::push(h, lone_frame(i));
+        h = r.held;
+        i += 1;
+    }
+    h
+}
+
+// The addresses of the 64 senders, one after another.
+pub(crate) fn addresses() -> [u8; 1280]
+    ensures { λ r. ⌜ r ≡ addresses 64 ⌝ }
+{
+    let mut all = [1u8; 1280];
+    let mut i: u8 = 0;
+    while i < 64 {
+        let at = 20 * i as usize;
+        all[at] = i;
+        i += 1;
+    }
+    all
 }
 
 // So many frames.

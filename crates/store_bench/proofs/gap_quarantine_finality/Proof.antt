@@ -47,7 +47,7 @@ counted-requires : tie.Need-counted-requires Inv-loop μ-loop
 counted-requires c κs = search needs
 
 add-seen : tie.Need-add-seen Inv-loop μ-loop
-add-seen c = omega (arith, fits (omega arith) ((c .before .before .before .before .before .before .before .before .before .before .before .before) .loop .inv .0) ((c .before .before .before .before .before .before .before .before .before .before .before) .loop-test .taken) (c .counted .ensures ∙ seen ((c .before .before .before .before) .check-finalized .ensures _) ((c .before .before .before .before .before .before .before) .mined .ensures noBodies ∙ rw ((c .before .before .before .before .before .before .before .before .before) .push .ensures noBodies .store, (c .before .before .before .before .before .before .before .before .before .before) .frame .ensures, (c .before .before .before .before .before .before .before .before .before .before .before .before) .loop .inv .1)) (computed .ended)) (omega arith))
+add-seen c = omega (arith, fits (omega arith) ((c .before .before .before .before .before .before .before .before .before .before .before .before) .loop .inv .0) ((c .before .before .before .before .before .before .before .before .before .before .before) .loop-test .taken) (c .counted .ensures ∙ seen _ ((c .before .before .before .before) .check-finalized .ensures _) ((c .before .before .before .before .before .before .before) .mined .ensures noBodies ∙ rw ((c .before .before .before .before .before .before .before .before .before) .push .ensures noBodies .store, (c .before .before .before .before .before .before .before .before .before .before) .frame .ensures, (c .before .before .before .before .before .before .before .before .before .before .before .before) .loop .inv .1)) (computed .ended)) (omega arith))
 
 add-i : tie.Need-add-i Inv-loop μ-loop
 add-i c = search needs
@@ -56,7 +56,7 @@ loop-less : tie.Need-loop-less Inv-loop μ-loop
 loop-less c = search needs
 
 loop-again : tie.Need-loop-again Inv-loop μ-loop
-loop-again c = (next (omega arith) ((c .before .before .before .before .before .before .before .before .before .before .before .before) .loop .inv .0) ((c .before .before .before .before .before .before .before .before .before .before .before) .loop-test .taken) (c .counted .ensures ∙ seen ((c .before .before .before .before) .check-finalized .ensures _) ((c .before .before .before .before .before .before .before) .mined .ensures noBodies ∙ rw ((c .before .before .before .before .before .before .before .before .before) .push .ensures noBodies .store, (c .before .before .before .before .before .before .before .before .before .before) .frame .ensures, (c .before .before .before .before .before .before .before .before .before .before .before .before) .loop .inv .1)) (computed .ended)), leads ((c .before .before .before .before) .check-finalized .ensures _) ((c .before .before .before .before .before .before .before) .mined .ensures noBodies ∙ rw ((c .before .before .before .before .before .before .before .before .before) .push .ensures noBodies .store, (c .before .before .before .before .before .before .before .before .before .before) .frame .ensures, (c .before .before .before .before .before .before .before .before .before .before .before .before) .loop .inv .1)) (computed .ended))
+loop-again c = (next (omega arith) ((c .before .before .before .before .before .before .before .before .before .before .before .before) .loop .inv .0) ((c .before .before .before .before .before .before .before .before .before .before .before) .loop-test .taken) (c .counted .ensures ∙ seen _ ((c .before .before .before .before) .check-finalized .ensures _) ((c .before .before .before .before .before .before .before) .mined .ensures noBodies ∙ rw ((c .before .before .before .before .before .before .before .before .before) .push .ensures noBodies .store, (c .before .before .before .before .before .before .before .before .before .before) .frame .ensures, (c .before .before .before .before .before .before .before .before .before .before .before .before) .loop .inv .1)) (computed .ended)), leads _ ((c .before .before .before .before) .check-finalized .ensures _) ((c .before .before .before .before .before .before .before) .mined .ensures noBodies ∙ rw ((c .before .before .before .before .before .before .before .before .before) .push .ensures noBodies .store, (c .before .before .before .before .before .before .before .before .before .before) .frame .ensures, (c .before .before .before .before .before .before .before .before .before .before .before .before) .loop .inv .1)) (computed .ended))
 
 returns : tie.Need-returns Inv-loop μ-loop
 returns c = omega (arith, done ((c .before) .loop .inv .0) (c .loop-test .left) ((c .before .before .before) .capped .ensures))

@@ -37,7 +37,7 @@ counted-requires : tie.Need-counted-requires Inv-loop μ-loop
 counted-requires c κs = search needs
 
 add-seen : tie.Need-add-seen Inv-loop μ-loop
-add-seen c = omega (arith, fits (omega arith) ((c .before .before .before .before .before .before .before) .loop .inv .0) ((c .before .before .before .before .before .before) .loop-test .taken) (c .counted .ensures ∙ seen ((c .before .before .before) .poll .ensures _) ((c .before .before .before .before .before .before .before) .loop .inv .1) (computed .polled)) (omega arith))
+add-seen c = omega (arith, fits (omega arith) ((c .before .before .before .before .before .before .before) .loop .inv .0) ((c .before .before .before .before .before .before) .loop-test .taken) (c .counted .ensures ∙ seen _ ((c .before .before .before) .poll .ensures _) ((c .before .before .before .before .before .before .before) .loop .inv .1) (computed .polled)) (omega arith))
 
 add-i : tie.Need-add-i Inv-loop μ-loop
 add-i c = search needs
@@ -46,7 +46,7 @@ loop-less : tie.Need-loop-less Inv-loop μ-loop
 loop-less c = search needs
 
 loop-again : tie.Need-loop-again Inv-loop μ-loop
-loop-again c = (next (omega arith) ((c .before .before .before .before .before .before .before) .loop .inv .0) ((c .before .before .before .before .before .before) .loop-test .taken) (c .counted .ensures ∙ seen ((c .before .before .before) .poll .ensures _) ((c .before .before .before .before .before .before .before) .loop .inv .1) (computed .polled)), leads ((c .before .before .before) .poll .ensures _) ((c .before .before .before .before .before .before .before) .loop .inv .1) (computed .polled))
+loop-again c = (next (omega arith) ((c .before .before .before .before .before .before .before) .loop .inv .0) ((c .before .before .before .before .before .before) .loop-test .taken) (c .counted .ensures ∙ seen _ ((c .before .before .before) .poll .ensures _) ((c .before .before .before .before .before .before .before) .loop .inv .1) (computed .polled)), leads _ ((c .before .before .before) .poll .ensures _) ((c .before .before .before .before .before .before .before) .loop .inv .1) (computed .polled))
 
 returns : tie.Need-returns Inv-loop μ-loop
 returns c = done ((c .before) .loop .inv .0) (c .loop-test .left) ((c .before .before .before) .capped .ensures)

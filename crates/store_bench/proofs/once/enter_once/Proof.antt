@@ -19,11 +19,11 @@ one b = cond b 1 0
 
 returns : tie.Need-returns
 unfolding one
-returns c = sym (ap one (c .if1 .taken)) ∙ tells ((c .before .before) .enter-tentative .ensures noBodies) ∙ rw ((c .before .before .before) .hash-at .ensures)
+returns c = sym (ap one (c .if1 .taken)) ∙ tells _ ((c .before .before) .enter-tentative .ensures noBodies) ∙ rw ((c .before .before .before) .hash-at .ensures)
 
 returns-2 : tie.Need-returns-2
 unfolding one
-returns-2 c = sym (ap one (c .if1 .left)) ∙ tells ((c .before .before) .enter-tentative .ensures noBodies) ∙ rw ((c .before .before .before) .hash-at .ensures)
+returns-2 c = sym (ap one (c .if1 .left)) ∙ tells _ ((c .before .before) .enter-tentative .ensures noBodies) ∙ rw ((c .before .before .before) .hash-at .ensures)
 
 pub enter-once-spec : {M : Type 1} → statement M
 enter-once-spec = tie.close (tie.spec hash-at-requires enter-tentative-requires returns returns-2)

@@ -14,7 +14,7 @@ counted-requires : tie.Need-counted-requires
 counted-requires c κs = search needs
 
 returns : tie.Need-returns
-returns c = c .counted .ensures ∙ tells ((c .before .before) .evict-sender .ensures _)
+returns c = c .counted .ensures ∙ tells _ ((c .before .before) .evict-sender .ensures _)
 
 pub evict-once-spec : {M : Type 1} → statement M
 evict-once-spec =

@@ -40,7 +40,7 @@ counted-requires : tie.Need-counted-requires Inv-loop μ-loop
 counted-requires c κs = search needs
 
 add-seen : tie.Need-add-seen Inv-loop μ-loop
-add-seen c = omega (arith, fits ((c .before .before .before .before .before .before .before .before .before .before) .pre) ((c .before .before .before .before .before .before .before .before) .loop .inv) ((c .before .before .before .before .before .before .before) .loop-test .taken) (c .counted .ensures ∙ tells ((c .before .before) .poll-with-content .ensures)) (omega arith))
+add-seen c = omega (arith, fits ((c .before .before .before .before .before .before .before .before .before .before) .pre) ((c .before .before .before .before .before .before .before .before) .loop .inv) ((c .before .before .before .before .before .before .before) .loop-test .taken) (c .counted .ensures ∙ tells _ ((c .before .before) .poll-with-content .ensures)) (omega arith))
 
 add-i : tie.Need-add-i Inv-loop μ-loop
 add-i c = search needs
@@ -49,7 +49,7 @@ loop-less : tie.Need-loop-less Inv-loop μ-loop
 loop-less c = search needs
 
 loop-again : tie.Need-loop-again Inv-loop μ-loop
-loop-again c = next ((c .before .before .before .before .before .before .before .before .before .before) .pre) ((c .before .before .before .before .before .before .before .before) .loop .inv) ((c .before .before .before .before .before .before .before) .loop-test .taken) (c .counted .ensures ∙ tells ((c .before .before) .poll-with-content .ensures))
+loop-again c = next ((c .before .before .before .before .before .before .before .before .before .before) .pre) ((c .before .before .before .before .before .before .before .before) .loop .inv) ((c .before .before .before .before .before .before .before) .loop-test .taken) (c .counted .ensures ∙ tells _ ((c .before .before) .poll-with-content .ensures))
 
 returns : tie.Need-returns Inv-loop μ-loop
 returns c = done ((c .before) .loop .inv) (c .loop-test .left) ((c .before .before) .capped .ensures)

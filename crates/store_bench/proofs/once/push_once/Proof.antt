@@ -15,7 +15,7 @@ counted-requires : tie.Need-counted-requires
 counted-requires c κs = search needs
 
 returns : tie.Need-returns
-returns c = c .counted .ensures ∙ tells (c .before .push .ensures noBodies) ∙ rw (c .before .before .frame .ensures)
+returns c = c .counted .ensures ∙ tells _ (c .before .push .ensures noBodies) ∙ rw (c .before .before .frame .ensures)
 
 pub push-once-spec : {M : Type 1} → statement M
 push-once-spec = tie.close (tie.spec frame-requires push-requires counted-requires returns)

@@ -17,7 +17,7 @@ counted-requires : tie.Need-counted-requires
 counted-requires c κs = search needs
 
 returns : tie.Need-returns
-returns c = c .counted .ensures ∙ tells ((c .before .before) .poll .ensures _)
+returns c = c .counted .ensures ∙ tells _ ((c .before .before) .poll .ensures _)
 
 pub rescue-once-spec : {M : Type 1} → statement M
 rescue-once-spec =
