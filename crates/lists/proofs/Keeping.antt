@@ -1,7 +1,7 @@
 -- The laws of `keep` and `Each`.
 use Prim.Native.Nat.{ℕ, _+_, _≤_, _<_}
 use native.Mathlib.Numerals.{add-one}
-use mathlib.Core.Path.{_≡_, refl, sym, ap, _∙_}
+use mathlib.Core.Path.{_≡_, refl, sym, ap, _∙_, subst}
 use mathlib.Core.Bool.{Bool, true, false, cond, false≢true}
 use mathlib.Core.List.{List, [], _∷_, _++_, List·Memᴰ, List·Memᴰ·head, List·Memᴰ·tail, List·Memᴰ·not-nil, List·Memᴰ·cases-cons}
 use mathlib.Core.Logic.{_⊎_, inl, inr}
@@ -53,6 +53,14 @@ module _ {A : Type 0} where
   pub each-of : (P : A → Type 0) (xs : List A) → ((x : A) → List·Memᴰ x xs → P x) → Each P xs
   each-of P [] f = tt
   each-of P (x ∷ xs) f = (f x (List·Memᴰ·head refl), each-of P xs (λ y m. f y (List·Memᴰ·tail m)))
+
+  pub each-at : (P : A → Type 0) (xs : List A) → Each P xs → (x : A) → List·Memᴰ x xs → P x
+  each-at P [] h x m = absurd (List·Memᴰ·not-nil m)
+  each-at P (y ∷ ys) h x m = go (List·Memᴰ·cases-cons m) (each-at P ys (h .1) x)
+    where
+      go : (x ≡ y) ⊎ List·Memᴰ x ys → (List·Memᴰ x ys → P x) → P x
+      go (inl e) ih = subst P (sym e) (h .0)
+      go (inr n) ih = ih n
 
   pub mem-keep : (p : A → Bool) (x : A) (xs : List A) → p x ≡ true → List·Memᴰ x xs → List·Memᴰ x (keep p xs)
   unfolding keep
