@@ -1,18 +1,20 @@
 -- What holds of every ideal store that calls lead to: its entries are in walk order, and each hash in it is owned by the
 -- sender of its entry (`Good`). The owner of a hash is a parameter, so that no lemma here hangs on how it is found.
-use mathlib.Core.Path.{_≡_, refl, sym, subst}
+use mathlib.Core.Path.{_≡_, refl, sym, ap, subst}
 use mathlib.Core.Bool.{Bool, true, false, cond}
 use mathlib.Core.List.{List, [], _∷_}
 use mathlib.Core.Option.{Option, none, some}
-use Prim.Native.Nat.{ℕ}
-use Rattle.lists.specs.Bytes.{Bytes, leBytes}
+use lib.ListN.{length}
+use Prim.Native.Nat.{ℕ, _≤_}
+use native.Mathlib.Omega.{arith}
+use Rattle.lists.specs.Bytes.{Bytes, eqBytes, leBytes}
 use Rattle.lists.proofs.ByteOrder.{leBytes-trans, leBytes-total}
 use Rattle.store_rules.specs.Frames.{Frame, Consumed, Standing, Entry, Guard, Visit}
-use Rattle.store_rules.specs.Lookup.{enters, enterWith, enterFirst}
+use Rattle.store_rules.specs.Lookup.{entriesOf, enters, enterWith, enterFirst}
 use Rattle.store_rules.proofs.Lookups.{lookup-nil, enter-cons, enter-none}
 use Rattle.store_rules.specs.Store.{NotBefore, Sorted, Call, push, poll, guard, enterTentative, evictSender, checkReorg, checkFinalized, after, insert, fresh, inputRefusal}
 use Rattle.order_rule.specs.Orders.{Key, sender}
-use Rattle.lists.specs.Lists.{Each}
+use Rattle.lists.specs.Lists.{keep, Each}
 use Rattle.lists.proofs.Keeping.{each-map}
 use Rattle.order_rule.proofs.Ideal.{Ideal, Guards, behind, trail, trailed, effectᵢ, unlessᵢ, stepᵢ}
 
@@ -27,6 +29,26 @@ pub thinner-each : (P : Frame → Type 0) {fs es : List Entry} → Thinner fs es
 thinner-each P nothing h = tt
 thinner-each P (skip t) h = thinner-each P t (h .1)
 thinner-each P (also q t) h = (subst P (sym q) (h .0), thinner-each P t (h .1))
+
+pub thinner-length : {fs es : List Entry} → Thinner fs es → length fs ≤ length es
+thinner-length nothing = omega arith
+thinner-length (skip t) = let l = thinner-length t in omega arith
+thinner-length (also q t) = let l = thinner-length t in omega arith
+
+-- a sender's entries are thinned with the others
+pub thinner-of : (a : Bytes) {fs es : List Entry} → Thinner fs es → Thinner (entriesOf a fs) (entriesOf a es)
+unfolding entriesOf keep
+thinner-of a nothing = nothing
+thinner-of a (skip {fs = fs} {es = es} {e = e} t) = go (eqBytes (e .frame .from) a) (thinner-of a t)
+  where
+    go : (b : Bool) → Thinner (entriesOf a fs) (entriesOf a es) → Thinner (entriesOf a fs) (cond b (e ∷ entriesOf a es) (entriesOf a es))
+    go true r = skip r
+    go false r = r
+thinner-of a (also {fs = fs} {es = es} {f = f} {e = e} q t) = rw (ap (λ (x : Frame). eqBytes (x .from) a) q) (go (eqBytes (e .frame .from) a) (thinner-of a t))
+  where
+    go : (b : Bool) → Thinner (entriesOf a fs) (entriesOf a es) → Thinner (cond b (f ∷ entriesOf a fs) (entriesOf a fs)) (cond b (e ∷ entriesOf a es) (entriesOf a es))
+    go true r = also q r
+    go false r = r
 
 thinner-sorted : {fs es : List Entry} → Thinner fs es → Sorted es → Sorted fs
 thinner-sorted nothing h = tt
@@ -46,7 +68,7 @@ unfolding after
 after-thinner none e t = skip t
 after-thinner (some s) e t = also refl t
 
-trail-thinner : {A : Type 0} (rule : Option Guard → Entry → Visit A) (es : List Entry) (G : Guards) → Thinner (trail rule es G .entries) es
+pub trail-thinner : {A : Type 0} (rule : Option Guard → Entry → Visit A) (es : List Entry) (G : Guards) → Thinner (trail rule es G .entries) es
 unfolding trail behind
 trail-thinner rule [] G = nothing
 trail-thinner rule (e ∷ es) G = after-thinner (rule (G (e .frame .hash)) e .stays) e (trail-thinner rule es _)

@@ -4,5 +4,6 @@ pub mod Part
 pub mod Whole
 pub mod Owner
 pub mod Theorem
+pub mod Sweeps
 pub mod Swap
 pub mod Premises

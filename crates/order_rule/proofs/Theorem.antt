@@ -1,12 +1,12 @@
--- The rule of two orders (`Orders.OrderRule`), proved: `order-rule`.
+-- The rule of two orders for lists without sweeps (`Orders.PlainRuleFrom`), proved: `plain-rule-from`.
 use Prim.Native.Nat.{ℕ}
 use mathlib.Core.Path.{_≡_, refl, sym, ap, _∙_, subst, subst₂}
 use mathlib.Core.Bool.{Bool, true, false}
 use mathlib.Core.List.{List, [], _∷_, _++_, List·Memᴰ, Memᴰ·append-left, Memᴰ·append-right}
 use mathlib.Core.Option.{Option, none, some}
 use Rattle.lists.specs.Bytes.{Bytes}
-use Rattle.store_rules.specs.Store.{Store, Sorted, empty, SameStore, Call, push, Request, Answer, effect, refusal, unless, step, run, calls}
-use Rattle.order_rule.specs.Orders.{Key, eqKey, ownerIn, pushesOf, keyBy, isFor, ofKey, Keyed, nothing, also, SameCalls, TwoOrders, rest, cut, shown, transcript, EnoughRoom, OrderRuleFrom, OrderRule}
+use Rattle.store_rules.specs.Store.{Store, Sorted, SameStore, Call, push, Request, Answer, effect, refusal, unless, step, run, calls}
+use Rattle.order_rule.specs.Orders.{Key, eqKey, ownerIn, pushesOf, keyBy, isFor, ofKey, Keyed, nothing, also, SameCalls, TwoOrders, rest, cut, shown, transcript, EnoughRoom, PlainRuleFrom}
 use Rattle.store_rules.specs.Frames.{Entry}
 use Rattle.lists.specs.Lists.{keep, Each}
 use Rattle.lists.proofs.Keeping.{each-append, each-of}
@@ -133,9 +133,9 @@ module _ (owner : Bytes → Key) where
 
 -- ---- the rule
 
-pub order-rule-from : (s : Store) → Sorted (s .entries) → OrderRuleFrom s
+pub plain-rule-from : (s : Store) → Sorted (s .entries) → PlainRuleFrom s
 unfolding view
-order-rule-from s h xs ys t one m n =
+plain-rule-from s h xs ys t one m n =
     two-orders-from owner s (record { sorted = h; owned = each-of (λ e. OwnedFrame owner (e .frame)) (s .entries) entry-owned }) xs ys t
     (each-of (OwnedCall owner) (calls xs) call-owned) (each-of (OwnedCall owner) (calls ys) (λ c k. call-owned c (orders-mem (keyBy owner) t c k))) m n
   where
@@ -151,20 +151,11 @@ order-rule-from s h xs ys t one m n =
     entry-owned : (e : Entry) → List·Memᴰ e (s .entries) → OwnedFrame owner (e .frame)
     entry-owned e k = owned-call (held ++ calls xs) one (push (e .frame)) (Memᴰ·append-left (calls xs) (mem-pushes (s .entries) e k)) (e .frame) refl
 
-pub order-rule : OrderRule
-unfolding empty pushesOf
-order-rule = order-rule-from empty tt
-
--- The premise of `order-rule-from` holds of each store that calls lead to from an empty one.
-step-sorted : (s : Store) (q : Request) → Sorted (s .entries) → Sorted (step s q .0 .entries)
+-- its premise: every call keeps walk order
+pub step-sorted : (s : Store) (q : Request) → Sorted (s .entries) → Sorted (step s q .0 .entries)
 unfolding step unless view seen
 step-sorted s q h = go (refusal s q)
   where
     go : (o : Option ℕ) → Sorted (unless o s (effect s (q .call)) .0 .entries)
     go (some n) = h
     go none = subst Sorted (ap (λ (r : Ideal × Answer). r .0 .entries) (effect-view s (q .call))) (effect-sorted (view s) (q .call) h)
-
-pub run-sorted : (s : Store) (qs : List Request) → Sorted (s .entries) → Sorted (run s qs .entries)
-unfolding run
-run-sorted s [] h = h
-run-sorted s (q ∷ qs) h = run-sorted (step s q .0) qs (step-sorted s q h)

@@ -1,6 +1,7 @@
 -- Demand 3, the rule of two orders: its condition on order, its premises, and its claim, `OrderRule`.
 -- The lists are of the calls that return a store. Calls that only read return none, so they stand in no list: they may come
 -- between, uncompared.
+use Prim.Native.Nat.{ℕ}
 use mathlib.Core.Path.{_≡_}
 use mathlib.Core.Bool.{Bool, false, _||_, cond}
 use mathlib.Core.List.{List, [], _∷_, _++_, List·Memᴰ}
@@ -8,8 +9,9 @@ use mathlib.Core.Option.{Option, none, some}
 use lib.Dec.{eqb}
 use Rattle.lists.specs.Bytes.{Bytes, eqBytes}
 use Rattle.store_rules.specs.Frames.{Frame, Entry}
-use Rattle.lists.specs.Lists.{keep}
+use Rattle.lists.specs.Lists.{keep, collect}
 use Rattle.store_rules.specs.Store.{Store, empty, SameStore, Call, push, poll, guard, enterTentative, evictSender, checkReorg, checkFinalized, Answer, total, rows, recorded, entered, frames, dead, refused, Request, step, run, calls}
+use Rattle.store_rules.specs.Sweeps.{pollsOf, pollsIn, sweepInputRefusal, Item, single, sweep, stepItem, runItems}
 
 -- ---- whose call it is
 
