@@ -82,7 +82,7 @@ module _ (s : Store) (a : Bytes) (head : ℕ) (known : List ℕ) where
         let few : length (rowsOf (step s (lent (poll a head known none) numbers) .1)) ≤ length (entriesOf a (s .entries)) = rw poll-made poll-few in
         omega (arith, poll-length s long a head known none numbers)
 
-small-counts : (cs : List ℕ) → bigCount cs ≡ false → Each (λ n. n ≤ 256) cs
+pub small-counts : (cs : List ℕ) → bigCount cs ≡ false → Each (λ n. n ≤ 256) cs
 unfolding bigCount keep isEmpty
 small-counts [] e = tt
 small-counts (c ∷ cs) e = go (ltb 256 c) refl e (small-counts cs)

@@ -15,7 +15,8 @@ use Rattle.lists.proofs.Pairs.{pairwise-last}
 use Rattle.store_rules.specs.Frames.{State, tracked, tentative, isTracked, Frame, Entry, degraded}
 use Rattle.store_rules.specs.Poll.{gap}
 use Rattle.store_rules.specs.Lookup.{entriesOf}
-use Rattle.store_rules.specs.Store.{empty, NotBefore, Sorted, wideGap, run}
+use Rattle.store_rules.specs.Store.{empty, NotBefore, Sorted, wideGap}
+use Rattle.store_rules.specs.Sweeps.{runItems}
 use Rattle.queries.specs.Queries.{Block, putBlock, withBlock, blocksFrom, tentativeBlocks, isAmong, sendersFrom, senders, putNumber, putNumbers, window, poolKnownGap}
 use Rattle.store_laws.specs.Reachable.{Reachable}
 use Rattle.store_laws.specs.Listings.{hashOf, hashIn, lastHash, inWindow, EveryListing}
@@ -240,7 +241,7 @@ module _ (head pendingCount n : ℕ) where
 
 pub every-listing : EveryListing
 unfolding tentativeBlocks senders poolKnownGap entriesOf hashOf isAmong isIn
-every-listing qs = record {
+every-listing is = record {
   blocks = blocks-ascending [] es tt;
   blockHashes = λ n. last-hash n [] es;
   addresses = senders-ascending [] es (r .sorted) tt (nothing-listed es);
@@ -251,11 +252,11 @@ every-listing qs = record {
       ∙ in-windows head pendingCount n (entriesOf a es) (each-keep (λ e. eqBytes (e .frame .from) a) _ es (r .narrowGaps));
 }
   where
-    r : Reachable (run empty qs)
-    r = every-run qs
+    r : Reachable (runItems empty is)
+    r = every-run is
 
     es : List Entry
-    es = run empty qs .entries
+    es = runItems empty is .entries
 
     nothing-listed : (fs : List Entry) → Each (Listed []) fs
     nothing-listed [] = tt

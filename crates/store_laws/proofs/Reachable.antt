@@ -1,4 +1,4 @@
--- Every store that calls lead to from an empty one is in walk order and within its limits (`every-run`).
+-- Every store that calls and sweeps lead to from an empty one is in walk order and within its limits (`every-run`).
 use Prim.Native.Nat.{ℕ, suc, _≤_, _<_}
 use native.Mathlib.Omega.{arith}
 use mathlib.Core.Path.{_≡_, refl, sym, ap, subst}
@@ -15,10 +15,11 @@ use Rattle.lists.proofs.Elements.{length-keep}
 use Rattle.lists.proofs.Pairs.{pairwise-keep}
 use Rattle.store_rules.specs.Frames.{Frame, Entry, Guard, Visit}
 use Rattle.store_rules.specs.Lookup.{enters, lookup, isFound}
-use Rattle.store_rules.specs.Store.{Store, RowForm, empty, Call, push, poll, guard, enterTentative, checkReorg, checkFinalized, evictSender, Request, Answer, guardOf, dropGuard, putGuard, walk, walked, insert, fresh, effect, when, wideGap, noRoomFor, inputRefusal, roomRefusal, refusal, unless, step, run}
+use Rattle.store_rules.specs.Store.{Store, Sorted, RowForm, empty, Call, push, poll, guard, enterTentative, checkReorg, checkFinalized, evictSender, Request, Answer, guardOf, dropGuard, putGuard, walk, walked, insert, fresh, effect, when, wideGap, noRoomFor, inputRefusal, roomRefusal, refusal, unless, step}
 use Rattle.order_rule.proofs.Ideal.{Ideal, view, seen, effectᵢ, effect-view}
-use Rattle.order_rule.proofs.Invariant.{Thinner, nothing, skip, also, thinner-each, insert-each, Change, thinned, inserted, change}
-use Rattle.order_rule.proofs.Theorem.{run-sorted}
+use Rattle.order_rule.proofs.Invariant.{thinner-each, thinner-length, insert-each, Change, thinned, inserted, change}
+use Rattle.order_rule.proofs.Theorem.{step-sorted}
+use Rattle.order_rule.proofs.Sweeps.{items-keep}
 use Rattle.store_laws.specs.Reachable.{EveryRun}
 
 -- ---- entries
@@ -29,11 +30,6 @@ Narrow = Each (λ e. wideGap (e .frame) ≡ false)
 record Entries (es : List Entry) : Type 0 where
   entries : length es ≤ 64
   narrow : Narrow es
-
-thinner-length : {fs es : List Entry} → Thinner fs es → length fs ≤ length es
-thinner-length nothing = omega arith
-thinner-length (skip t) = let l = thinner-length t in omega arith
-thinner-length (also q t) = let l = thinner-length t in omega arith
 
 insert-length : (e : Entry) (es : List Entry) → length (insert e es) ≡ suc (length es)
 unfolding insert
@@ -175,22 +171,18 @@ step-limits s q h = go (refusal s q) refl
       ofGuards = effect-guards s (q .call) (q .form) (q .numbers) (q .bytes) e (h .ofGuards);
     }
 
-run-limits : (s : Store) (qs : List Request) → Limits s → Limits (run s qs)
-unfolding run
-run-limits s [] h = h
-run-limits s (q ∷ qs) h = run-limits (step s q .0) qs (step-limits s q h)
-
 pub every-run : EveryRun
 unfolding empty
-every-run qs =
-    let l = run-limits empty qs (record {
+every-run is =
+    let start : Limits empty = record {
       ofEntries = record { entries = omega arith; narrow = tt };
       ofGuards = record { guards = omega arith; oneGuard = tt };
-    }) in
+    } in
+    let r = items-keep (λ s. Sorted (s .entries) × Limits s) (λ s q h. (step-sorted s q (h .0), step-limits s q (h .1))) empty is (tt, start) in
     record {
-      sorted = run-sorted empty qs tt;
-      entries = l .ofEntries .entries;
-      guards = l .ofGuards .guards;
-      oneGuard = l .ofGuards .oneGuard;
-      narrowGaps = l .ofEntries .narrow;
+      sorted = r .0;
+      entries = r .1 .ofEntries .entries;
+      guards = r .1 .ofGuards .guards;
+      oneGuard = r .1 .ofGuards .oneGuard;
+      narrowGaps = r .1 .ofEntries .narrow;
     }

@@ -1,34 +1,33 @@
 -- Every short row says what it should (`every-short-row`), short rows tell what long ones do (`short-as-long`), and take less room
 -- (`short-needs-less`).
-use Prim.Native.Nat.{ℕ, suc, _+_, _*_, _-_, _^_, _≤_, _<_}
+use Prim.Native.Nat.{ℕ, suc, _+_, _*_, _^_, _≤_, _<_}
 use native.Mathlib.Omega.{arith}
 use mathlib.Core.Path.{_≡_, refl, sym, ap, _∙_}
-use mathlib.Core.Bool.{Bool, true, false, cond}
+use mathlib.Core.Bool.{Bool, true, false}
 use mathlib.Core.List.{List, [], _∷_, map}
 use mathlib.Core.Option.{Option, none, some, orElse, Option·none-ne-some}
 use lib.Dec.{ltb}
 use lib.ListN.{length, replicate, drop}
 use lib.Seq.{take-at, drop-at}
 use borrow.Author.Tests.{lt-ltb, le-ltb, ltb-true, ltb-false}
-use Rattle.lists.specs.Bytes.{Bytes, eqBytes}
-use Rattle.lists.specs.Lists.{collect, chunks, written, Each}
-use Rattle.lists.proofs.Elements.{each-join}
+use Rattle.lists.specs.Bytes.{Bytes}
+use Rattle.lists.specs.Lists.{collect, chunks, Each}
 use Rattle.lists.proofs.Keeping.{keep-each, each-map}
 use Rattle.short_rows.specs.Mark.{markOf}
 use Rattle.short_rows.specs.Reading.{isNonce, noncesRead}
 use Rattle.short_rows.proofs.Bits.{mark-lt, mark-at}
 use Rattle.short_rows.proofs.Marking.{none-marked}
 use Rattle.short_rows.proofs.Marks.{Ascending, nonces-back, ones-length}
-use Rattle.store_rules.specs.Frames.{Entry, Guard, nonceConsumed, Row, Visit}
-use Rattle.store_rules.specs.Poll.{Content, gap, predecessors, guardMatches, stay, leave, row, pollRule}
+use Rattle.store_rules.specs.Frames.{Row}
+use Rattle.store_rules.specs.Poll.{Content, pollRule}
 use Rattle.store_rules.specs.Rules.{onlyOf}
 use Rattle.store_rules.specs.Lookup.{entriesOf}
-use Rattle.store_rules.specs.Store.{Store, Call, push, poll, guard, enterTentative, checkReorg, checkFinalized, evictSender, RowForm, long, short, rowWidth, guardOf, dropGuard, walk, walked, listed, effect, when, badContent, inputRefusal, roomRefusal, refusal, unless, step}
+use Rattle.store_rules.specs.Store.{Store, poll, RowForm, long, short, rowWidth, walk, walked, listed, rowsOf, effect, when, badContent, inputRefusal, roomRefusal, refusal, unless, step}
 use Rattle.store_rules.specs.Answers.{decisionNumber, rowNumbers, numbersOf}
-use Rattle.store_rules.proofs.GapNonces.{InGap, preds-in-gap, unknown-in-gap, gap-few}
-use Rattle.store_rules.proofs.PollCases.{PollCase, silent, consumed, holds, hold, waits, heldBack, rescued, poll-case}
+use Rattle.store_rules.proofs.GapNonces.{gap-few}
+use Rattle.store_rules.proofs.PollRows.{Narrow, effect-narrow}
 use Rattle.store_rules.proofs.RowForms.{row-length}
-use Rattle.store_laws.specs.ShortRows.{Says, rowsOf, EveryShortRow, Told, noncesIn, decode, decoded, polls, ShortAsLong, ShortNeedsLess}
+use Rattle.store_laws.specs.ShortRows.{Says, EveryShortRow, Told, noncesIn, decode, decoded, polls, ShortAsLong, ShortNeedsLess}
 
 -- ---- what a short row says
 

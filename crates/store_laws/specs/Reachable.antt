@@ -1,4 +1,4 @@
--- What holds of every store that calls lead to from an empty one, and of the gap of every frame in it.
+-- What holds of every store that calls and sweeps lead to from an empty one, and of the gap of every frame in it.
 use Prim.Native.Nat.{ℕ, _≤_, _-_}
 use mathlib.Core.Path.{_≡_}
 use mathlib.Core.Bool.{false, _&&_}
@@ -9,7 +9,8 @@ use Rattle.lists.specs.Bytes.{eqBytes}
 use Rattle.lists.specs.Lists.{Each, Pairwise, isIn, numbersFrom}
 use Rattle.store_rules.specs.Frames.{Frame, Guard}
 use Rattle.store_rules.specs.Poll.{gap}
-use Rattle.store_rules.specs.Store.{Store, empty, Sorted, Request, wideGap, run}
+use Rattle.store_rules.specs.Store.{Store, empty, Sorted, wideGap}
+use Rattle.store_rules.specs.Sweeps.{Item, runItems}
 
 pub record Reachable (s : Store) : Type 0 where
   -- in walk order
@@ -22,7 +23,7 @@ pub record Reachable (s : Store) : Type 0 where
   pub narrowGaps : Each (λ e. wideGap (e .frame) ≡ false) (s .entries)
 
 abbrev pub EveryRun : Type 0
-EveryRun = (qs : List Request) → Reachable (run empty qs)
+EveryRun = (is : List Item) → Reachable (runItems empty is)
 
 -- the gap of such a frame is, ascending, every n with expected <= n < claim
 pub record WholeGap (f : Frame) : Type 0 where
