@@ -1,4 +1,5 @@
 pub mod Setting
 pub mod ShortRows
 pub mod Starred
+pub mod Sweeps
 pub mod Tempting

@@ -8,7 +8,7 @@ use Rattle.lists.specs.Bytes.{Bytes}
 use Rattle.wire.specs.Numbers.{digits}
 use Rattle.store_rules.specs.Frames.{Frame, Consumed, mined, reparked, Decision, Row}
 use Rattle.store_rules.specs.Store.{Store, empty, Call, long, Request, poll, guard, enterTentative, Answer, step, run}
-use Rattle.journal_record.specs.Records.{Fidelity, degraded, Park, resolveMark, legacyMark}
+use Rattle.journal_record.specs.Records.{Fidelity, Park, resolveMark, legacyMark}
 use Rattle.gap_quarantine_journal.specs.Fold.{Counts, Outcome, folded, refused, foldInto}
 
 -- ---- the store

@@ -1,7 +1,7 @@
 -- The readings that document 01 calls tempting and wrong: for each, an input on which it would answer something else.
 use mathlib.Core.Path.{_≡_}
 use mathlib.Core.List.{[], _∷_, _++_, map}
-use mathlib.Core.Option.{none, some}
+use mathlib.Core.Option.{some}
 use lib.ListN.{replicate}
 use Rattle.wire.specs.HashText.{canonical}
 use Rattle.store_rules.specs.Frames.{rescue}
