@@ -59,7 +59,7 @@ pub record SweepRefused (s : Store) (w : Sweep) (n : ℕ) : Type 0 where
 abbrev pub EverySweepRefusal : Type 0
 EverySweepRefusal = (s : Store) (w : Sweep) (n : ℕ) → sweepRefusal s w ≡ some n → SweepRefused s w n
 
--- inputs for which no sweep is refused
+-- inputs for which a sweep is refused with none of 17, 18 and 3
 pub record SoundInputs (w : Sweep) : Type 0 where
   pub senders : length (w .heads) ≤ 64
   pub bytes : length (w .senders) ≡ 20 * length (w .heads)
