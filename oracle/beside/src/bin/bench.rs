@@ -41,19 +41,45 @@ fn say(name: &str, unit: &str, rust: f64, ours: Option<f64>) {
 
 // ---- the store; each loop answers how many rows or frames it saw, so that both sides can be seen to do the same
 
-/// Document 01's frame F as the sender's n-th.
-fn frame(n: u8) -> ParkedFrame {
+/// Document 01's frame F as the n-th, of this sender.
+fn frame_of(n: u8, from: [u8; 20]) -> ParkedFrame {
     let mut hash = [1; 32];
     hash[0] = n;
     beside::store::original::parked(&beside::store::calls::Frame {
         hash,
-        from: [1; 20],
+        from,
         expected: 5,
         claim: 8,
         chain_id: 1,
         gas: 21_000,
         ticket: u64::from(n),
     })
+}
+
+/// The same as the sender's n-th.
+fn frame(n: u8) -> ParkedFrame {
+    frame_of(n, [1; 20])
+}
+
+/// The n-th of the senders with a frame each.
+fn sender_at(n: u8) -> [u8; 20] {
+    let mut address = [1; 20];
+    address[0] = n;
+    address
+}
+
+/// 64 senders with a frame each, polled one after another; every poll gives one row of StillWaiting.
+fn polls_in_turn(rounds: u64) -> u64 {
+    let mut q = Quarantine::new();
+    for n in 0..64 {
+        q.push(frame_of(n, sender_at(n)));
+    }
+    (0..rounds).map(|i| q.poll(Address(sender_at((i % 64) as u8)), 5, &[6]).len() as u64).sum()
+}
+
+/// The 64 polls of a sweep.
+fn swept(rounds: u64) -> u64 {
+    polls_in_turn(64 * rounds)
 }
 
 /// A sender with eight frames; every poll gives eight rows of StillWaiting.
@@ -104,9 +130,11 @@ type Measure = (&'static str, fn(u64) -> u64, Option<Loop>);
 
 fn store() {
     let ours = store_loops();
-    let measures: [Measure; 4] = [
+    let measures: [Measure; 6] = [
         ("polls with 8 frames a sender", polls, ours.as_ref().map(|o| o.polls)),
         ("guarded polls with content, 8 frames", guarded_polls, ours.as_ref().map(|o| o.guarded_polls)),
+        ("sweep of 64 senders with a frame each, beside the Rust's 64 polls", swept, ours.as_ref().map(|o| o.sweeps)),
+        ("polls of the 64 senders one by one", polls_in_turn, ours.as_ref().map(|o| o.polls_in_turn)),
         ("push and rescue", push_and_rescue, ours.as_ref().map(|o| o.push_and_rescue)),
         ("push, entering and finality", finality, ours.as_ref().map(|o| o.finality)),
     ];

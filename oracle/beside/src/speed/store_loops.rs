@@ -6,6 +6,8 @@ pub type Loop = fn(u64) -> u64;
 pub struct StoreLoops {
     pub polls: Loop,
     pub guarded_polls: Loop,
+    pub sweeps: Loop,
+    pub polls_in_turn: Loop,
     pub push_and_rescue: Loop,
     pub finality: Loop,
 }
@@ -15,6 +17,8 @@ mod linked {
     extern "C" {
         fn gap_quarantine_polls(rounds: u64) -> u64;
         fn gap_quarantine_guarded_polls(rounds: u64) -> u64;
+        fn gap_quarantine_sweeps(rounds: u64) -> u64;
+        fn gap_quarantine_polls_in_turn(rounds: u64) -> u64;
         fn gap_quarantine_push_and_rescue(rounds: u64) -> u64;
         fn gap_quarantine_finality(rounds: u64) -> u64;
     }
@@ -24,6 +28,8 @@ mod linked {
         super::StoreLoops {
             polls: |rounds| unsafe { gap_quarantine_polls(rounds) },
             guarded_polls: |rounds| unsafe { gap_quarantine_guarded_polls(rounds) },
+            sweeps: |rounds| unsafe { gap_quarantine_sweeps(rounds) },
+            polls_in_turn: |rounds| unsafe { gap_quarantine_polls_in_turn(rounds) },
             push_and_rescue: |rounds| unsafe { gap_quarantine_push_and_rescue(rounds) },
             finality: |rounds| unsafe { gap_quarantine_finality(rounds) },
         }
