@@ -1,26 +1,21 @@
--- Rows: the numbers of one, and how many a poll gives.
+-- The numbers of a row.
 use Prim.Native.Nat.{ℕ, _+_, _-_, _≤_}
 use native.Mathlib.Omega.{arith}
 use mathlib.Core.Path.{_≡_, refl, _∙_}
-use mathlib.Core.Bool.{Bool, true, false, cond}
-use mathlib.Core.List.{List, [], _∷_, _++_}
-use mathlib.Core.Option.{Option}
+use mathlib.Core.Bool.{true, false}
+use mathlib.Core.List.{List, [], _∷_}
 use lib.Count.{ones}
-use lib.ListN.{length, replicate, length-append}
-use Rattle.lists.specs.Bytes.{Bytes, eqBytes}
+use lib.ListN.{length, replicate}
 use Rattle.lists.specs.Lists.{keep, written, writtenAt}
 use Rattle.lists.proofs.Keeping.{keep-each, each-of}
 use Rattle.lists.proofs.Writing.{at-behind}
 use Rattle.short_rows.specs.Mark.{markOf}
-use Rattle.store_rules.specs.Frames.{Frame, Entry, Guard, Row, Visit}
-use Rattle.store_rules.specs.Poll.{Content, predecessors, unknown, guardMatches, stay, leave, row, pollRule}
-use Rattle.store_rules.specs.Rules.{onlyOf}
-use Rattle.store_rules.specs.Lookup.{entriesOf}
-use Rattle.store_rules.specs.Store.{RowForm, long, short, rowWidth, guardOf, dropGuard, walk}
+use Rattle.store_rules.specs.Frames.{Frame}
+use Rattle.store_rules.specs.Poll.{predecessors, unknown, row}
+use Rattle.store_rules.specs.Store.{RowForm, long, short, rowWidth}
 use Rattle.store_rules.specs.Answers.{decisionNumber, rowNumbers}
 use Rattle.store_rules.proofs.GapNonces.{preds-in-gap, unknown-in-gap, gap-few}
 use Rattle.store_rules.proofs.RowForms.{row-length}
-use Rattle.store_rules.proofs.PollCases.{PollCase, silent, consumed, holds, hold, waits, heldBack, rescued, poll-case}
 use Rattle.decisions.specs.Courses.{decisionOf, noncesOf, isListed, rowOf}
 use Rattle.decisions.specs.declared.rows.Telling.{Telling}
 use Rattle.decisions.specs.declared.rows.Telling.the-variants.{Consumed, Hold, Waits, HeldBack, Rescued}

@@ -1,10 +1,9 @@
 -- What a sweep makes of the held part: its refusals in their order, and its polls.
 use Prim.Native.Nat.{ℕ, _*_, _≤_, _<_}
-use native.Mathlib.Omega.{arith}
 use mathlib.Core.Path.{_≡_, refl, sym}
 use mathlib.Core.Bool.{Bool, true, false, _||_, not, true≢false}
 use mathlib.Core.List.{List, []}
-use mathlib.Core.Option.{none, some, orElse}
+use mathlib.Core.Option.{some, orElse}
 use lib.Dec.{eqb, ltb}
 use lib.ListN.{length}
 use borrow.Author.Tests.{lt-ltb, le-ltb, ltb-false, eqb-true, not-false}
@@ -13,7 +12,7 @@ use Rattle.lists.specs.Lists.{sum}
 use Rattle.refusal.specs.Numbers.{refusalNumber}
 use Rattle.refusal.specs.declared.Refusal.{Refusal}
 use Rattle.refusal.specs.declared.Refusal.the-variants.{ManyKnown, ShortSlice, BadSweepLists, BadNonceCounts}
-use Rattle.store_rules.specs.Store.{Store, long, when, unless}
+use Rattle.store_rules.specs.Store.{long, when, unless}
 use Rattle.store_rules.specs.Answers.{Said, saysRefused, said, numbersOf, bytesOf}
 use Rattle.store_rules.specs.Sweeps.{Sweep, badLists, badSum, bigCount, sweepInputRefusal, listedEntries, sweepRoomRefusal, sweepRefusal, sweepEffect, sweepStep}
 use Rattle.store_rules.specs.View.{Bodies, entriesSeen, heldView}

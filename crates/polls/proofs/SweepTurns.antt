@@ -13,7 +13,7 @@ use Rattle.lists.proofs.Parts.{part-rest}
 use Rattle.lists.proofs.Sums.{sum-turn}
 use Rattle.lists.proofs.Writing.{length-at, at-behind, written-fits, collect-append}
 use Rattle.store_rules.specs.Frames.{Row}
-use Rattle.store_rules.specs.Store.{Store, Call, poll, long, rowWidth, Request, Answer, total, rows, recorded, entered, frames, dead, refused, rowsOf, step, run}
+use Rattle.store_rules.specs.Store.{Store, poll, long, rowWidth, Request, Answer, total, rows, recorded, entered, frames, dead, refused, rowsOf, step, run}
 use Rattle.store_rules.specs.Answers.{Said, said, rowNumbers, numbersOf}
 use Rattle.store_rules.specs.Sweeps.{pollsFrom, lent, inTurn, rowsListed}
 use Rattle.store_rules.proofs.PollRows.{poll-writes, poll-length}

@@ -13,7 +13,7 @@ use Rattle.lists.specs.Bytes.{Bytes}
 use Rattle.store_rules.specs.Poll.{pollRule}
 use Rattle.store_rules.specs.Rules.{onlyOf}
 use Rattle.store_rules.specs.Lookup.{entriesOf}
-use Rattle.store_rules.specs.Store.{Store, Call, poll, long, rows, rowWidth, walk, walked, effect, when, badContent, inputRefusal, roomRefusal, refusal, unless, step}
+use Rattle.store_rules.specs.Store.{Store, poll, long, rows, rowWidth, walk, walked, effect, when, badContent, inputRefusal, roomRefusal, refusal, unless, step}
 use Rattle.store_rules.specs.Answers.{said}
 use Rattle.store_rules.proofs.PollRows.{few-rows}
 use Rattle.store_bench.specs.Loads.{senderAt, lone, counted, told, inTurn}

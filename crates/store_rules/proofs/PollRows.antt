@@ -2,7 +2,7 @@
 use Prim.Native.Nat.{ℕ, _+_, _*_, _≤_}
 use native.Mathlib.Nat.{mul-suc, mul-zero}
 use native.Mathlib.Omega.{arith}
-use mathlib.Core.Path.{_≡_, refl, sym, ap, _∙_}
+use mathlib.Core.Path.{_≡_, refl, sym}
 use mathlib.Core.Bool.{Bool, true, false, cond}
 use mathlib.Core.List.{List, [], _∷_, _++_}
 use mathlib.Core.Option.{Option, none, some}
@@ -14,7 +14,7 @@ use Rattle.store_rules.specs.Frames.{Entry, Guard, nonceConsumed, Row, V
 use Rattle.store_rules.specs.Poll.{Content, predecessors, guardMatches, stay, leave, row, pollRule}
 use Rattle.store_rules.specs.Rules.{onlyOf}
 use Rattle.store_rules.specs.Lookup.{entriesOf}
-use Rattle.store_rules.specs.Store.{Store, Call, push, poll, guard, enterTentative, checkReorg, checkFinalized, evictSender, RowForm, rowWidth, Request, Answer, guardOf, dropGuard, walk, walked, rowsOf, effect, refusal, unless, step}
+use Rattle.store_rules.specs.Store.{Store, Call, push, poll, guard, enterTentative, checkReorg, checkFinalized, evictSender, RowForm, rowWidth, Answer, guardOf, dropGuard, walk, walked, rowsOf, effect, refusal, unless, step}
 use Rattle.store_rules.specs.Answers.{rowNumbers, numbersOf}
 use Rattle.store_rules.proofs.GapNonces.{InGap, preds-in-gap, unknown-in-gap, gap-few}
 use Rattle.store_rules.proofs.RowForms.{row-length}

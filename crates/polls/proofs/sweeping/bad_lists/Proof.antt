@@ -1,5 +1,4 @@
-use mathlib.Core.Path.{_≡_, refl, sym}
-use native.Mathlib.Omega.{arith}
+use mathlib.Core.Path.{refl}
 use borrow.Author.Tests.{lt-ltb, le-ltb, eq-eqb, ne-eqb}
 use Rattle.store_rules.specs.Sweeps.{badLists}
 use borrow.Author.Needs.{needs}

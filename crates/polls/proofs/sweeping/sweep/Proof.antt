@@ -1,5 +1,5 @@
 use native.Mathlib.Omega.{arith}
-use mathlib.Core.Path.{_≡_, sym, _∙_}
+use mathlib.Core.Path.{sym, _∙_}
 use Rattle.polls.proofs.SweepSteps.{agree, sums, bad-lists, bad-sum, big, short-slice, swept}
 use borrow.Author.Needs.{needs}
 use Rattle.polls.proofs.sweeping.sweep.Statement.{statement}
