@@ -19,8 +19,8 @@ pub enum Answer {
     Refused(Refusal),
 }
 
-// The held part after a call, and the answer.
+// An answer, and the held part after the call.
 pub struct Outcome {
-    pub held: Held,
     pub answer: Answer,
+    pub held: Held,
 }

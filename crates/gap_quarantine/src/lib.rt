@@ -64,22 +64,22 @@ pub use store_rules::Whose;
 
 // ---- answers
 
-// The store after a call, and the answer.
+// An answer, and the store after the call.
 pub struct Answered {
-    pub store: Quarantine,
     pub answer: Answer,
-}
-
-// The held part after a call, and whose the frame is that entered the tentative state, if one was found.
-pub struct Entered {
-    pub held: Held,
-    pub whose: Whose,
-}
-
-// The same with the store after the call.
-pub struct EnteredStore {
     pub store: Quarantine,
+}
+
+// Whose the frame is that entered the tentative state, if one was found, and the held part after the call.
+pub struct Entered {
     pub whose: Whose,
+    pub held: Held,
+}
+
+// The same, and the store after the call.
+pub struct EnteredStore {
+    pub whose: Whose,
+    pub store: Quarantine,
 }
 
 // ---- the store as one value

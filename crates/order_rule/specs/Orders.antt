@@ -147,7 +147,7 @@ unfoldable pub requestsOf : Store → Item → List Request
 requestsOf s (single q) = q ∷ []
 requestsOf s (sweep w) = unrefused (sweepInputRefusal w) (pollsIn s w)
 
--- each call that is read in a run, with what it answers
+-- each call that is read in a run, with what it answers; a sweep refused with 5, whose polls are not made, fails the premise on room
 unfoldable pub transcriptRead : Store → List Item → List (Call × Answer)
 transcriptRead s [] = []
 transcriptRead s (i ∷ is) = transcript s (requestsOf s i) ++ transcriptRead (stepItem s i .0) is

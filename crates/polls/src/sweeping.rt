@@ -158,8 +158,8 @@ fn polls_in_turn(
     let no_numbers = [0u64; 0];
     let no_bytes = [0u8; 0];
     let mut done = Outcome {
-        held: h,
         answer: Answer::Rows(0),
+        held: h,
     };
     let mut total = 0;
     let mut used = 0;
@@ -190,8 +190,8 @@ fn polls_in_turn(
     }
     let held = done.held;
     Outcome {
-        held: held,
         answer: Answer::Rows(total),
+        held: held,
     }
 }
 
@@ -213,27 +213,27 @@ pub fn sweep(
     let count_is_big = big_count(counts);
     if lists_are_bad {
         return Outcome {
-            held: h,
             answer: Answer::Refused(Refusal::BadSweepLists),
+            held: h,
         };
     }
     if sum_is_bad {
         return Outcome {
-            held: h,
             answer: Answer::Refused(Refusal::BadNonceCounts),
+            held: h,
         };
     }
     if count_is_big {
         return Outcome {
-            held: h,
             answer: Answer::Refused(Refusal::ManyKnown),
+            held: h,
         };
     }
     let need = 19 * listed_entries(h, senders, heads.len());
     if rows.len() < need {
         return Outcome {
-            held: h,
             answer: Answer::Refused(Refusal::ShortSlice),
+            held: h,
         };
     }
     polls_in_turn(h, senders, heads, counts, nonces, rows)
