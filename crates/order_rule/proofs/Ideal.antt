@@ -205,7 +205,7 @@ step-view s q = go (inputRefusal (q .call)) (roomRefusal s (q .call) (q .form) (
 
 -- ---- a list of calls
 
-room-shown : (a : Answer) → aboutRoom (shown a) ≡ aboutRoom a
+pub room-shown : (a : Answer) → aboutRoom (shown a) ≡ aboutRoom a
 unfolding shown aboutRoom
 room-shown (total n) = refl
 room-shown (rows l) = refl

@@ -17,12 +17,12 @@ use Rattle.store_rules.specs.Frames.{Row}
 use Rattle.store_rules.specs.Poll.{pollRule}
 use Rattle.store_rules.specs.Rules.{onlyOf}
 use Rattle.store_rules.specs.Lookup.{entriesOf}
-use Rattle.store_rules.specs.Store.{Store, Sorted, empty, Call, poll, long, rowWidth, Request, Answer, total, rows, recorded, entered, frames, dead, refused, rowsOf, walked, effect, when, badContent, inputRefusal, roomRefusal, refusal, unless, step, run, calls}
+use Rattle.store_rules.specs.Store.{Store, Sorted, empty, Call, poll, long, rowWidth, Request, Answer, rows, refused, rowsOf, walked, effect, when, badContent, inputRefusal, roomRefusal, refusal, unless, step, run, calls}
 use Rattle.store_rules.specs.Answers.{numbersOf}
 use Rattle.store_rules.specs.Sweeps.{Sweep, pollsFrom, pollsOf, lent, inTurn, pollsIn, badLists, badSum, bigCount, sweepInputRefusal, listedEntries, sweepRoomRefusal, sweepRefusal, sweepEffect, sweepStep, Item, single, sweep, stepItem, runItems}
 use Rattle.store_rules.proofs.PollRows.{few-rows, poll-length}
 use Rattle.order_rule.specs.Orders.{pushesOf, shown, transcript, aboutRoom, EnoughRoom, unrefused, callsOf, callsRead, requestsOf, transcriptRead, RoomFor, OrderRuleFrom, OrderRule, PlainIsSpecial}
-use Rattle.order_rule.proofs.Ideal.{Ideal, view, effectᵢ, trailed, seen, effect-view}
+use Rattle.order_rule.proofs.Ideal.{Ideal, view, effectᵢ, trailed, seen, effect-view, room-shown}
 use Rattle.order_rule.proofs.Invariant.{Thinner, thinner-length, thinner-of, trail-thinner}
 use Rattle.order_rule.proofs.Theorem.{plain-rule-from}
 
@@ -133,16 +133,6 @@ Roomy t = aboutRoom (t .1) ≡ false
 record Read (s : Store) (i : Item) : Type 0 where
   runs : stepItem s i .0 ≡ run s (requestsOf s i)
   roomy : Each Roomy (transcript s (requestsOf s i))
-
-room-shown : (a : Answer) → aboutRoom (shown a) ≡ aboutRoom a
-unfolding shown aboutRoom
-room-shown (total n) = refl
-room-shown (rows l) = refl
-room-shown recorded = refl
-room-shown (entered w) = refl
-room-shown (frames l) = refl
-room-shown (dead l) = refl
-room-shown (refused n) = refl
 
 rows-roomy : (t : Call × Answer) → AnswersRows t → Roomy t
 unfolding aboutRoom

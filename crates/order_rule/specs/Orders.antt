@@ -159,42 +159,31 @@ RoomFor s (i ∷ is) = (aboutRoom (stepItem s i .1) ≡ false) × RoomFor (stepI
 
 -- ---- the rule
 
--- The lists are two orders of the same calls, as the condition says; no frame hash is pushed by two senders; no call or sweep of
--- either run is refused for want of room, whatever slices it is lent. Then the stores found afterwards are equal, and the
--- transcripts meet the same condition: calls in the same place, the polls of sweeps among them, have the same answers. Both runs
--- begin from the store `s`, in which each entry counts as pushed by its sender before the calls.
+-- Of lists of any kind of which it is known which calls they are read as, whether a run has room, the store after it, and its
+-- transcript. The lists are two orders of the same calls, as the condition says; no frame hash is pushed by two senders, in the
+-- pushes before the calls or among them; no run is refused for want of room, whatever slices are lent. Then the stores found
+-- afterwards are equal, and the transcripts meet the same condition: calls in the same place have the same answers. The owners
+-- are read from the first list; the second gives the same ones (`same-owner`).
+abbrev pub InAnyOrder : {A : Type 0} → List Call → (List A → List Call) → (List A → Type 0) → (List A → Store) → (List A → List (Call × Answer)) → Type 0
+InAnyOrder {A} before read Room after tells =
+    (xs ys : List A) →
+    TwoOrders (keyBy (ownerIn (before ++ read xs))) (read xs) (read ys) →
+    OneSender (before ++ read xs) →
+    Room xs →
+    Room ys →
+    SameStore (after xs) (after ys) × TwoOrders (λ (t : Call × Answer). keyBy (ownerIn (before ++ read xs)) (t .0)) (tells xs) (tells ys)
+
+-- both runs begin from the store `s`, in which each entry counts as pushed by its sender before the calls
 abbrev pub OrderRuleFrom : Store → Type 0
-OrderRuleFrom s =
-    (xs ys : List Item) →
-    TwoOrders (keyBy (ownerIn (pushesOf (s .entries) ++ callsRead xs))) (callsRead xs) (callsRead ys) →
-    OneSender (pushesOf (s .entries) ++ callsRead xs) →
-    RoomFor s xs →
-    RoomFor s ys →
-    SameStore (runItems s xs) (runItems s ys)
-    × TwoOrders (λ (t : Call × Answer). keyBy (ownerIn (pushesOf (s .entries) ++ callsRead xs)) (t .0)) (transcriptRead s xs) (transcriptRead s ys)
+OrderRuleFrom s = InAnyOrder (pushesOf (s .entries)) callsRead (RoomFor s) (runItems s) (transcriptRead s)
 
--- Demand 3: from an empty store. The owners are read from the first list; the second gives the same ones (`same-owner`).
+-- demand 3: from an empty store
 abbrev pub OrderRule : Type 0
-OrderRule =
-    (xs ys : List Item) →
-    TwoOrders (keyBy (ownerIn (callsRead xs))) (callsRead xs) (callsRead ys) →
-    OneSender (callsRead xs) →
-    RoomFor empty xs →
-    RoomFor empty ys →
-    SameStore (runItems empty xs) (runItems empty ys)
-    × TwoOrders (λ (t : Call × Answer). keyBy (ownerIn (callsRead xs)) (t .0)) (transcriptRead empty xs) (transcriptRead empty ys)
+OrderRule = InAnyOrder [] callsRead (RoomFor empty) (runItems empty) (transcriptRead empty)
 
--- ---- the same of lists without sweeps
-
+-- the same of lists without sweeps
 abbrev pub PlainRuleFrom : Store → Type 0
-PlainRuleFrom s =
-    (xs ys : List Request) →
-    TwoOrders (keyBy (ownerIn (pushesOf (s .entries) ++ calls xs))) (calls xs) (calls ys) →
-    OneSender (pushesOf (s .entries) ++ calls xs) →
-    EnoughRoom s xs →
-    EnoughRoom s ys →
-    SameStore (run s xs) (run s ys)
-    × TwoOrders (λ (t : Call × Answer). keyBy (ownerIn (pushesOf (s .entries) ++ calls xs)) (t .0)) (transcript s xs) (transcript s ys)
+PlainRuleFrom s = InAnyOrder (pushesOf (s .entries)) calls (EnoughRoom s) (run s) (transcript s)
 
 -- it is the rule's special case
 abbrev pub PlainIsSpecial : Type 0

@@ -16,7 +16,7 @@ use Rattle.store_rules.specs.Lookup.{entriesOf}
 use Rattle.store_rules.specs.Store.{Store, poll, long, rows, rowWidth, walk, walked, effect, when, badContent, inputRefusal, roomRefusal, refusal, unless, step}
 use Rattle.store_rules.specs.Answers.{said}
 use Rattle.store_rules.proofs.PollRows.{few-rows}
-use Rattle.store_bench.specs.Loads.{senderAt, lone, counted, told, inTurn}
+use Rattle.store_bench.specs.Loads.{senderAt, lone, counted, told, polledInTurn}
 
 -- with room for one row, a poll tells of at most one
 poll-few : (s : Store) (a : Bytes) (head : ℕ) (known : List ℕ) → told s (poll a head known none) 19 0 ≤ 1
@@ -32,12 +32,12 @@ poll-few s a head known = go (ltb 256 (length known)) (ltb 19 (19 * length (entr
 -- after i of the rounds
 pub record Turned (limit : ℕ) (s : Store) (seen i : ℕ) : Type 0 where
   pub within : i ≤ limit
-  pub store : s ≡ inTurn i .0
-  pub all : seen ≡ inTurn i .1
+  pub store : s ≡ polledInTurn i .0
+  pub all : seen ≡ polledInTurn i .1
   pub few : seen ≤ i
 
 pub none-turned : (limit : ℕ) → Turned limit (lone 64) 0 0
-unfolding inTurn
+unfolding polledInTurn
 none-turned limit = record { within = omega arith; store = refl; all = refl; few = omega arith }
 
 module _ (limit : ℕ) (s : Store) (seen i : ℕ) (t : Turned limit s seen i) (n : ℕ) (tells : n ≡ told s (poll (senderAt (i % 64)) 5 (6 ∷ []) none) 19 0) where
@@ -45,7 +45,7 @@ module _ (limit : ℕ) (s : Store) (seen i : ℕ) (t : Turned limit s seen i) (n
   tells-few = rw tells (poll-few s (senderAt (i % 64)) 5 (6 ∷ []))
 
   pub one-turned : i + 1 ≤ limit → (s′ : Store) → s′ ≡ step s (record { call = poll (senderAt (i % 64)) 5 (6 ∷ []) none; form = long; numbers = 19; bytes = 0 }) .0 → Turned limit s′ (seen + n) (i + 1)
-  unfolding inTurn
+  unfolding polledInTurn
   one-turned h s′ e = record {
     within = h;
     store = rw (add-one i, e, t .store);

@@ -134,12 +134,12 @@ told = toldIn long
 
 -- polls of the 64 senders one after another, each lent room for a row: the store after so many of them, and how many rows they
 -- told of in all
-unfoldable pub inTurn : ℕ → Store × ℕ
-inTurn zero = (lone 64, 0)
-inTurn (suc n) =
-    let s = inTurn n .0 in
+unfoldable pub polledInTurn : ℕ → Store × ℕ
+polledInTurn zero = (lone 64, 0)
+polledInTurn (suc n) =
+    let s = polledInTurn n .0 in
     let call = poll (senderAt (n % 64)) 5 (6 ∷ []) none in
-    (step s (record { call = call; form = long; numbers = 19; bytes = 0 }) .0, inTurn n .1 + told s call 19 0)
+    (step s (record { call = call; form = long; numbers = 19; bytes = 0 }) .0, polledInTurn n .1 + told s call 19 0)
 
 -- such a call leads to this store, and tells of so many
 pub record Goes (s : Store) (call : Call) (numbers bytes : ℕ) (t : Store) (n : ℕ) : Type 0 where

@@ -2,7 +2,7 @@
 // many rows or frames the answers told of. All but one run on the held part of a store.
 ghost use mathlib.Core.Path.{_≡_};
 ghost use Prim.Native.Nat.{_*_, min};
-ghost use Rattle.store_bench.specs.Loads.{inTurn, sized};
+ghost use Rattle.store_bench.specs.Loads.{polledInTurn, sized};
 use gap_quarantine::Held;
 use gap_quarantine::Quarantine;
 use once::Once;
@@ -131,7 +131,7 @@ pub extern "C" fn gap_quarantine_sweeps(rounds: u64) -> u64
 // Polls of the same senders, one after another: a poll a round.
 #[no_mangle]
 pub extern "C" fn gap_quarantine_polls_in_turn(rounds: u64) -> u64
-    ensures { λ r. ⌜ r ≡ inTurn (min rounds 4294967296) .1 ⌝ }
+    ensures { λ r. ⌜ r ≡ polledInTurn (min rounds 4294967296) .1 ⌝ }
 {
     let limit = capped(rounds);
     let known = [6u64; 1];

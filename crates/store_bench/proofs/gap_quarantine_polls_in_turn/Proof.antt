@@ -1,7 +1,7 @@
 use Prim.Native.Nat.{_-_}
 use mathlib.Core.Path.{_≡_, ap, _∙_}
 use native.Mathlib.Omega.{arith}
-use Rattle.store_bench.specs.Loads.{noBodies, alone, inTurn}
+use Rattle.store_bench.specs.Loads.{noBodies, alone, polledInTurn}
 use Rattle.store_bench.proofs.Performing.{tells}
 use Rattle.store_bench.proofs.Turns.{Turned, none-turned, tells-few, one-turned}
 use borrow.Author.Needs.{needs}
@@ -61,7 +61,7 @@ returns : tie.Need-returns Inv-loop μ-loop
 returns c =
     let l = (c .before) .loop in
     let end : l .i ≡ (c .before .before .before) .capped .result = omega (arith, l .inv .within, c .loop-test .left) in
-    l .inv .all ∙ ap (λ n. inTurn n .1) (end ∙ (c .before .before .before) .capped .ensures)
+    l .inv .all ∙ ap (λ n. polledInTurn n .1) (end ∙ (c .before .before .before) .capped .ensures)
 
 pub gap-quarantine-polls-in-turn-spec : {M : Type 1} → statement M
 gap-quarantine-polls-in-turn-spec =
