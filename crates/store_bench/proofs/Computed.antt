@@ -18,7 +18,7 @@ use Rattle.store_rules.specs.Answers.{said}
 use Rattle.store_rules.specs.Sweeps as sweeps
 use Rattle.store_rules.specs.Sweeps.{sweepStep}
 use Rattle.store_rules.specs.Store.{empty, push, long, short, checkFinalized}
-use Rattle.store_bench.specs.Loads.{frame, waiting, rescuing, guarded, mining, evicting, after, sizeOf, sized, pushed, guardedBy, lone, addresses, sweeping, counted, toldIn, told, Goes}
+use Rattle.store_bench.specs.Loads.{frame, waiting, rescuing, guarded, mining, evicting, after, sizeOf, sized, filled, pushed, guardedBy, lone, addresses, sweeping, counted, toldIn, told, Goes}
 
 -- the rounds whose store goes to the next, and calls on a store of 8 frames that is kept
 pub record Computed : Type 0 where
@@ -31,7 +31,7 @@ pub record Computed : Type 0 where
   pub ends : told (after (pushed 8) mining) (checkFinalized 100) 3 64 ≡ 1
 
 pub computed : Computed
-unfolding bytes.eqBytes bytes.leBytes lists.keep lists.isEmpty lists.isIn lists.numbersFrom frames.degraded polls.gap polls.predecessors polls.unknown polls.firstIs polls.contentsHold polls.contentMatches polls.boundaryHolds polls.guardMatches polls.stay polls.leave polls.row polls.pollFull polls.pollIn polls.pollGiven polls.pollRule rules.onlyOf rules.evictRule rules.finalIn rules.finalRule stores.empty stores.guardOf stores.dropGuard stores.putGuard stores.after stores.walk stores.walked stores.fresh stores.insert frames.isTracked search.firstAt lookups.entriesOf lookups.enters lookups.foundBehind lookups.firstOf lookups.lookup lookups.isFound lookups.enterWith lookups.enterHead lookups.enterFirst stores.effect stores.when orElse stores.wideGap stores.badContent stores.badContents stores.noRoomFor stores.inputRefusal stores.listed stores.roomRefusal stores.rowWidth stores.refusal stores.unless stores.step answers.said pushed guardedBy
+unfolding bytes.eqBytes bytes.leBytes lists.keep lists.isEmpty lists.isIn lists.numbersFrom frames.degraded polls.gap polls.predecessors polls.unknown polls.firstIs polls.contentsHold polls.contentMatches polls.boundaryHolds polls.guardMatches polls.stay polls.leave polls.row polls.pollFull polls.pollIn polls.pollGiven polls.pollRule rules.onlyOf rules.evictRule rules.finalIn rules.finalRule stores.empty stores.guardOf stores.dropGuard stores.putGuard stores.after stores.walk stores.walked stores.fresh stores.insert frames.isTracked search.firstAt lookups.entriesOf lookups.enters lookups.foundBehind lookups.firstOf lookups.lookup lookups.isFound lookups.enterWith lookups.enterHead lookups.enterFirst stores.effect stores.when orElse stores.wideGap stores.badContent stores.badContents stores.noRoomFor stores.inputRefusal stores.listed stores.roomRefusal stores.rowWidth stores.refusal stores.unless stores.step answers.said filled guardedBy
 computed =
     record {
       polled = record { store = refl; seen = refl };
@@ -53,7 +53,7 @@ pub record Polled (n : ℕ) : Type 0 where
   pub enters : told (pushed n) mining 0 0 ≡ 1
 
 by-size : (a b : Bool) → Polled (sizeOf a b)
-unfolding bytes.eqBytes bytes.leBytes lists.keep lists.isEmpty lists.isIn lists.numbersFrom frames.degraded polls.gap polls.predecessors polls.unknown polls.firstIs polls.contentsHold polls.contentMatches polls.boundaryHolds polls.guardMatches polls.stay polls.leave polls.row polls.pollFull polls.pollIn polls.pollGiven polls.pollRule rules.onlyOf rules.evictRule rules.finalIn rules.finalRule stores.empty stores.guardOf stores.dropGuard stores.putGuard stores.after stores.walk stores.walked stores.fresh stores.insert frames.isTracked search.firstAt lookups.entriesOf lookups.enters lookups.foundBehind lookups.firstOf lookups.lookup lookups.isFound lookups.enterWith lookups.enterHead lookups.enterFirst stores.effect stores.when orElse stores.wideGap stores.badContent stores.badContents stores.noRoomFor stores.inputRefusal stores.listed stores.roomRefusal stores.rowWidth stores.refusal stores.unless stores.step answers.said pushed guardedBy
+unfolding bytes.eqBytes bytes.leBytes lists.keep lists.isEmpty lists.isIn lists.numbersFrom frames.degraded polls.gap polls.predecessors polls.unknown polls.firstIs polls.contentsHold polls.contentMatches polls.boundaryHolds polls.guardMatches polls.stay polls.leave polls.row polls.pollFull polls.pollIn polls.pollGiven polls.pollRule rules.onlyOf rules.evictRule rules.finalIn rules.finalRule stores.empty stores.guardOf stores.dropGuard stores.putGuard stores.after stores.walk stores.walked stores.fresh stores.insert frames.isTracked search.firstAt lookups.entriesOf lookups.enters lookups.foundBehind lookups.firstOf lookups.lookup lookups.isFound lookups.enterWith lookups.enterHead lookups.enterFirst stores.effect stores.when orElse stores.wideGap stores.badContent stores.badContents stores.noRoomFor stores.inputRefusal stores.listed stores.roomRefusal stores.rowWidth stores.refusal stores.unless stores.step answers.said filled guardedBy
 by-size true b = record { few = omega arith; waits = refl; waits-short = refl; held-back = refl; rescued = refl; enters = refl }
 by-size false true = record { few = omega arith; waits = refl; waits-short = refl; held-back = refl; rescued = refl; enters = refl }
 by-size false false = record { few = omega arith; waits = refl; waits-short = refl; held-back = refl; rescued = refl; enters = refl }
@@ -67,5 +67,5 @@ pub record Swept : Type 0 where
   pub seen : counted (said long (sweepStep (lone 64) sweeping .1)) ≡ 64
 
 pub swept : Swept
-unfolding bytes.eqBytes bytes.leBytes lists.keep lists.isEmpty lists.isIn lists.numbersFrom lists.sum lists.chunks frames.degraded polls.gap polls.predecessors polls.unknown polls.guardMatches polls.stay polls.leave polls.row polls.pollFull polls.pollIn polls.pollGiven polls.pollRule rules.onlyOf stores.empty stores.guardOf stores.dropGuard stores.after stores.walk stores.walked stores.fresh stores.insert lookups.entriesOf stores.effect stores.when orElse stores.wideGap stores.badContent stores.inputRefusal stores.listed stores.rowsOf stores.roomRefusal stores.rowWidth stores.refusal stores.unless stores.step stores.run answers.said answers.numbersOf answers.rowNumbers answers.decisionNumber lists.collect sweeps.pollsFrom sweeps.inTurn sweeps.pollsIn sweeps.rowsListed sweeps.badLists sweeps.badSum sweeps.bigCount sweeps.sweepInputRefusal sweeps.listedEntries sweeps.sweepRoomRefusal sweeps.sweepRefusal sweeps.sweepEffect sweeps.sweepStep lone addresses
+unfolding bytes.eqBytes bytes.leBytes lists.keep lists.isEmpty lists.isIn lists.numbersFrom lists.sum lists.chunks frames.degraded polls.gap polls.predecessors polls.unknown polls.guardMatches polls.stay polls.leave polls.row polls.pollFull polls.pollIn polls.pollGiven polls.pollRule rules.onlyOf stores.empty stores.guardOf stores.dropGuard stores.after stores.walk stores.walked stores.fresh stores.insert lookups.entriesOf stores.effect stores.when orElse stores.wideGap stores.badContent stores.inputRefusal stores.listed stores.rowsOf stores.roomRefusal stores.rowWidth stores.refusal stores.unless stores.step stores.run answers.said answers.numbersOf answers.rowNumbers answers.decisionNumber lists.collect sweeps.pollsFrom sweeps.inTurn sweeps.pollsIn sweeps.rowsListed sweeps.badLists sweeps.badSum sweeps.bigCount sweeps.sweepInputRefusal sweeps.listedEntries sweeps.sweepRoomRefusal sweeps.sweepRefusal sweeps.sweepEffect sweeps.sweepStep filled addresses
 swept = record { store = refl; seen = refl }

@@ -22,9 +22,22 @@ sender = replicate 20 1
 abbrev pub hashAt : ℕ → Bytes
 hashAt n = set (replicate 32 1) 0 n
 
--- document 01's frame F as the sender's n-th
+-- document 01's frame F as the n-th, of this sender
+abbrev pub frameBy : Bytes → ℕ → Frame
+frameBy from n = record { hash = hashAt n; from = from; expected = 5; claim = 8; chainId = 1; gas = 21000; ticket = n }
+
+-- of the one sender
 abbrev pub frame : ℕ → Frame
-frame n = record { hash = hashAt n; from = sender; expected = 5; claim = 8; chainId = 1; gas = 21000; ticket = n }
+frame n = frameBy sender n
+
+-- the n-th of senders with a frame each
+abbrev pub senderAt : ℕ → Bytes
+senderAt n = set (replicate 20 1) 0 n
+
+-- whose the n-th frame is: a sender's of its own, or that of the one sender
+abbrev pub whose : Bool → ℕ → Bytes
+whose true n = senderAt n
+whose false n = sender
 
 -- ---- calls
 
@@ -79,10 +92,16 @@ sized n = sizeOf (ltb n 8) (ltb n 64)
 abbrev pub after : Store → Call → Store
 after s call = step s (record { call = call; form = long; numbers = 0; bytes = 0 }) .0
 
--- so many frames
-unfoldable pub pushed : ℕ → Store
-pushed zero = empty
-pushed (suc n) = after (pushed n) (push (frame n))
+-- so many frames, each of a sender of its own, or all of one
+unfoldable pub filled : Bool → ℕ → Store
+filled apart zero = empty
+filled apart (suc n) = after (filled apart n) (push (frameBy (whose apart n) n))
+
+abbrev pub pushed : ℕ → Store
+pushed n = filled false n
+
+abbrev pub lone : ℕ → Store
+lone n = filled true n
 
 -- so many frames, each with its guard
 unfoldable pub guardedBy : ℕ → Store
@@ -90,18 +109,6 @@ guardedBy zero = empty
 guardedBy (suc n) = after (after (guardedBy n) (push (frame n))) (guard (guardAt n))
 
 -- ---- 64 senders with a frame each
-
-abbrev pub senderAt : ℕ → Bytes
-senderAt n = set (replicate 20 1) 0 n
-
--- document 01's frame F as the n-th sender's
-abbrev pub loneFrame : ℕ → Frame
-loneFrame n = record { hash = hashAt n; from = senderAt n; expected = 5; claim = 8; chainId = 1; gas = 21000; ticket = n }
-
--- the frames of so many senders
-unfoldable pub lone : ℕ → Store
-lone zero = empty
-lone (suc n) = after (lone n) (push (loneFrame n))
 
 -- room for 64 addresses, with those of so many senders
 unfoldable pub addresses : ℕ → Bytes

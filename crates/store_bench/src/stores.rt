@@ -3,7 +3,7 @@ ghost use mathlib.Core.Path.{_≡_};
 ghost use Prim.Native.Nat.{min};
 ghost use Rattle.store_rules.specs.View.{frameOf, Bodies, bodiesOf, heldView};
 ghost use Rattle.answers.specs.Contracts.{heard};
-ghost use Rattle.store_bench.specs.Loads.{hashAt, frame, mining, after, pushed, guardedBy, senderAt, loneFrame, lone, addresses, sized, counted};
+ghost use Rattle.store_bench.specs.Loads.{hashAt, senderAt, whose, frameBy, frame, filled, pushed, lone, mining, after, guardedBy, addresses, sized, counted};
 use gap_quarantine::Answer;
 use gap_quarantine::Held;
 use gap_quarantine::NonceConsumed;
@@ -56,22 +56,6 @@ pub(crate) fn hash_at(n: u8) -> [u8; 32]
     hash
 }
 
-// Document 01's frame F as the sender's n-th.
-pub(crate) fn frame(n: u8) -> ParkedFrame
-    ensures { λ r. ⌜ frameOf r ≡ frame n ⌝ }
-{
-    let hash = hash_at(n);
-    ParkedFrame {
-        hash: hash,
-        from: [1u8; 20],
-        expected: 5,
-        claim: 8,
-        chain_id: 1,
-        gas: 21000,
-        ticket: n as u64,
-    }
-}
-
 // The n-th of the senders with a frame each.
 pub(crate) fn sender_at(n: u8) -> [u8; 20]
     ensures { λ r. ⌜ r ≡ senderAt n ⌝ }
@@ -81,12 +65,21 @@ pub(crate) fn sender_at(n: u8) -> [u8; 20]
     address
 }
 
-// Document 01's frame F as that sender's.
-fn lone_frame(n: u8) -> ParkedFrame
-    ensures { λ r. ⌜ frameOf r ≡ loneFrame n ⌝ }
+// Whose the n-th frame is: a sender's of its own, or that of the one sender.
+fn whose(apart: bool, n: u8) -> [u8; 20]
+    ensures { λ r. ⌜ r ≡ whose apart n ⌝ }
+{
+    if apart {
+        return sender_at(n);
+    }
+    [1u8; 20]
+}
+
+// Document 01's frame F as the n-th, of this sender.
+fn frame_of(from: [u8; 20], n: u8) -> ParkedFrame
+    ensures { λ r. ⌜ frameOf r ≡ frameBy from n ⌝ }
 {
     let hash = hash_at(n);
-    let from = sender_at(n);
     ParkedFrame {
         hash: hash,
         from: from,
@@ -98,18 +91,40 @@ fn lone_frame(n: u8) -> ParkedFrame
     }
 }
 
-// The frames of 64 senders.
-pub(crate) fn lone_store() -> Held
-    ensures { λ r. ⌜ ((bodies : Bodies) → heldView bodies r ≡ lone 64) ⌝ }
+// The n-th frame of the one sender.
+pub(crate) fn frame(n: u8) -> ParkedFrame
+    ensures { λ r. ⌜ frameOf r ≡ frame n ⌝ }
+{
+    frame_of([1u8; 20], n)
+}
+
+// So many frames, each of a sender of its own, or all of one.
+fn filled(frames: u8, apart: bool) -> Held
+    ensures { λ r. ⌜ ((bodies : Bodies) → heldView bodies r ≡ filled apart frames) ⌝ }
 {
     let mut h = Held::new();
     let mut i: u8 = 0;
-    while i < 64 {
-        let r = gap_quarantine::push(h, lone_frame(i));
+    while i < frames {
+        let from = whose(apart, i);
+        let r = gap_quarantine::push(h, frame_of(from, i));
         h = r.held;
         i += 1;
     }
     h
+}
+
+// So many frames of one sender.
+pub(crate) fn store_of(frames: u8) -> Held
+    ensures { λ r. ⌜ ((bodies : Bodies) → heldView bodies r ≡ pushed frames) ⌝ }
+{
+    filled(frames, false)
+}
+
+// The frames of 64 senders.
+pub(crate) fn lone_store() -> Held
+    ensures { λ r. ⌜ ((bodies : Bodies) → heldView bodies r ≡ lone 64) ⌝ }
+{
+    filled(64, true)
 }
 
 // The addresses of the 64 senders, one after another.
@@ -124,20 +139,6 @@ pub(crate) fn addresses() -> [u8; 1280]
         i += 1;
     }
     all
-}
-
-// So many frames.
-pub(crate) fn store_of(frames: u8) -> Held
-    ensures { λ r. ⌜ ((bodies : Bodies) → heldView bodies r ≡ pushed frames) ⌝ }
-{
-    let mut h = Held::new();
-    let mut i: u8 = 0;
-    while i < frames {
-        let r = gap_quarantine::push(h, frame(i));
-        h = r.held;
-        i += 1;
-    }
-    h
 }
 
 // So many frames, each with its guard, whose body goes to the lent arrays.
