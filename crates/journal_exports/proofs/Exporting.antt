@@ -11,7 +11,7 @@ use Rattle.lists.specs.Lists.{collect, written, writtenAt}
 use Rattle.wire.specs.Numbers.{digits}
 use Rattle.refusal.specs.Numbers.{refusalNumber}
 use Rattle.refusal.specs.declared.Refusal.{Refusal}
-use Rattle.refusal.specs.declared.Refusal.the-variants.{WideGap, StoreFull, ManyKnown, BadContent, ShortSlice, ManyPredecessors, BadGuardContent, GuardsFull, LongJournal, UnknownMark, BadRecord, PendingFull, ShortOutput, BadHashText, NoSender, NoWire, BadSweepLists, BadNonceCounts}
+use Rattle.refusal.specs.declared.Refusal.the-variants.{WideGap, StoreFull, ManyKnown, BadContent, ShortSlice, ManyPredecessors, BadGuardContent, GuardsFull, LongJournal, UnknownMark, BadRecord, PendingFull, ShortOutput, BadHashText, NoSender, NoWire, BadSweepLists, BadNonceCounts, BadTrace}
 use Rattle.layout.specs.Layout.{size}
 use Rattle.journal_record.specs.Reading.{layoutOf, sizeOf}
 use Rattle.journal_record.specs.View.{parkSeen}
@@ -27,7 +27,7 @@ use Rattle.journal_exports.specs.Export.{turnedAway, fiveTotals, exporte
 
 -- ---- a refusal's number
 
-pub number-small : (x : Refusal) → refusalNumber x ≤ 18
+pub number-small : (x : Refusal) → refusalNumber x ≤ 19
 number-small WideGap = omega arith
 number-small StoreFull = omega arith
 number-small ManyKnown = omega arith
@@ -46,6 +46,7 @@ number-small NoSender = omega arith
 number-small NoWire = omega arith
 number-small BadSweepLists = omega arith
 number-small BadNonceCounts = omega arith
+number-small BadTrace = omega arith
 
 -- ---- what is written
 

@@ -1,7 +1,7 @@
--- The number of each refusal: document 01's, and those of request 2027-05.
+-- The number of each refusal: document 01's, and those of requests 2027-05 and 2027-06.
 use Prim.Native.Nat.{ℕ}
 use Rattle.refusal.specs.declared.Refusal.{Refusal}
-use Rattle.refusal.specs.declared.Refusal.the-variants.{WideGap, StoreFull, ManyKnown, BadContent, ShortSlice, ManyPredecessors, BadGuardContent, GuardsFull, LongJournal, UnknownMark, BadRecord, PendingFull, ShortOutput, BadHashText, NoSender, NoWire, BadSweepLists, BadNonceCounts}
+use Rattle.refusal.specs.declared.Refusal.the-variants.{WideGap, StoreFull, ManyKnown, BadContent, ShortSlice, ManyPredecessors, BadGuardContent, GuardsFull, LongJournal, UnknownMark, BadRecord, PendingFull, ShortOutput, BadHashText, NoSender, NoWire, BadSweepLists, BadNonceCounts, BadTrace}
 
 abbrev pub refusalNumber : Refusal → ℕ
 refusalNumber WideGap = 1
@@ -22,3 +22,4 @@ refusalNumber NoSender = 15
 refusalNumber NoWire = 16
 refusalNumber BadSweepLists = 17
 refusalNumber BadNonceCounts = 18
+refusalNumber BadTrace = 19

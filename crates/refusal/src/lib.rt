@@ -1,4 +1,4 @@
-// The eighteen refusals, and the number of each: document 01's sixteen, and those of request 2027-05.
+// The nineteen refusals, and the number of each: document 01's sixteen, and those of requests 2027-05 and 2027-06.
 ghost use mathlib.Core.Path.{_≡_};
 ghost use Rattle.refusal.specs.Numbers.{refusalNumber};
 
@@ -29,6 +29,8 @@ pub enum Refusal {
     // the nonce list's length
     BadSweepLists,
     BadNonceCounts,
+    // trace: unknown mark, bad byte, call cut short, or over 65,536 bytes
+    BadTrace,
 }
 
 // Its number.
@@ -54,5 +56,6 @@ pub fn number(r: Refusal) -> u64
         Refusal::NoWire => 16,
         Refusal::BadSweepLists => 17,
         Refusal::BadNonceCounts => 18,
+        Refusal::BadTrace => 19,
     }
 }
