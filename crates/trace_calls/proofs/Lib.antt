@@ -1,0 +1,4 @@
+pub mod Places
+pub mod Lending
+pub mod Readers
+pub mod Making
