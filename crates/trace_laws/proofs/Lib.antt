@@ -1,0 +1,3 @@
+pub mod ReadingBack
+pub mod Breaking
+pub mod LongEnough
