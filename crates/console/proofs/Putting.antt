@@ -12,7 +12,7 @@ use Rattle.lists.proofs.Pasting.{grown}
 use Rattle.wire.specs.Numbers.{num, digits}
 use Rattle.wire.specs.HashText.{hexPair}
 use Rattle.wire.proofs.NumberLaws.{length-digits, num-digits}
-use Rattle.console.specs.Lines.{counted}
+use Rattle.console.specs.Lines.{counted, placedLine, placedLines}
 use Rattle.console.specs.Waiting.{count, waits, behind, allBehind, pairs}
 
 -- the count of a buffer whose last two bytes were written
@@ -68,6 +68,16 @@ hex-turn bs w next p i h e f = rw (drop-cons bs i 0 h, f, e, add-one i)
 pub hex-done : (bs w : Bytes) (i : ℕ) → length bs ≤ i → allBehind w (pairs (drop i bs)) ≡ w
 unfolding allBehind pairs
 hex-done bs w i h = rw (drop-of-length-le bs h)
+
+-- a number's line is put, and those of the others are left
+pub line-turn : (ns : List ℕ) (w next : Bytes) (i : ℕ) → i < length ns → next ≡ allBehind w (placedLine i (getD ns i 0))
+    → allBehind next (placedLines (i + 1) (drop (i + 1) ns)) ≡ allBehind w (placedLines i (drop i ns))
+unfolding allBehind placedLine placedLines
+line-turn ns w next i h f = rw (drop-cons ns i 0 h, f, add-one i)
+
+pub line-done : (ns : List ℕ) (w : Bytes) (i : ℕ) → length ns ≤ i → allBehind w (placedLines i (drop i ns)) ≡ w
+unfolding allBehind placedLines
+line-done ns w i h = rw (drop-of-length-le ns h)
 
 -- texts, and then more texts
 pub and-then : (a b : List Bytes) (w mid last : Bytes) → mid ≡ allBehind w a → last ≡ allBehind mid b → last ≡ allBehind w (a ++ b)

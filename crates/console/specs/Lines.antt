@@ -1,5 +1,5 @@
--- Document 01's line of a fold, as the texts that are put one by one.
-use Prim.Native.Nat.{ℕ, _/_, _%_}
+-- Document 01's line of a fold, and request 2027-06's lines of a trace, as the texts that are put one by one.
+use Prim.Native.Nat.{ℕ, suc, _/_, _%_}
 use mathlib.Core.Bool.{cond}
 use mathlib.Core.List.{List, [], _∷_, _++_}
 use lib.Dec.{eqb}
@@ -36,3 +36,12 @@ totalsLine totals =
 -- what the exported function returned, 0 or a refusal, and the totals that it wrote
 unfoldable pub foldLine : ℕ → Bytes → List Bytes
 foldLine code totals = cond (eqb code 0) (totalsLine totals) (refusalLine code)
+
+-- a place, a space and a number
+unfoldable pub placedLine : ℕ → ℕ → List Bytes
+placedLine place n = decimal place ∷ (32 ∷ []) ∷ decimal n ∷ (10 ∷ []) ∷ []
+
+-- a line for each number, from this place on
+unfoldable pub placedLines : ℕ → List ℕ → List Bytes
+placedLines place [] = []
+placedLines place (n ∷ ns) = placedLine place n ++ placedLines (suc place) ns

@@ -1,11 +1,11 @@
-// What the programs write: words, numbers, hex digits and the line of a fold are put into a buffer, which goes to standard output
+// What the programs write: words, numbers, hex digits, the line of a fold and the lines of a trace are put into a buffer, which goes to standard output
 // when it is full and at the end. What is written is no part of the logic, so the contracts say what waits in the buffer.
 ghost use mathlib.Core.Path.{_≡_};
 ghost use mathlib.Core.List.{[], _∷_, _++_};
 ghost use Prim.Native.Nat.{_+_, _≤_};
 ghost use lib.Dec.{ltb};
 ghost use lib.ListN.{length, take};
-ghost use Rattle.console.specs.Lines.{counted, refusalLine, totalsLine, foldLine};
+ghost use Rattle.console.specs.Lines.{counted, refusalLine, totalsLine, foldLine, placedLine, placedLines};
 ghost use Rattle.console.specs.Waiting.{count, waits, behind, allBehind, decimal, pairs};
 use libc::STDERR_FILENO;
 use libc::STDOUT_FILENO;
@@ -132,6 +132,26 @@ pub fn fold_line(out: &mut Output, code: u64, totals: &[u8; 40])
         totals_line(out, totals);
     } else {
         refusal_line(out, code);
+    }
+}
+
+// A line of a trace: a place, a space and a number.
+fn placed_line(out: &mut Output, place: usize, n: u64)
+    ensures { λ _. ⌜ waits (now (out .exit)) ≡ allBehind (waits (now (out .entry))) (placedLine place n) ⌝ }
+{
+    number(out, place as u64);
+    next(out, n);
+    text(out, b"\n");
+}
+
+// A line for each number, from place 0 on.
+pub fn trace_lines(out: &mut Output, lines: &[u64])
+    ensures { λ _. ⌜ waits (now (out .exit)) ≡ allBehind (waits (now (out .entry))) (placedLines 0 (now (lines .entry))) ⌝ }
+{
+    let mut i = 0;
+    while i < lines.len() {
+        placed_line(out, i, lines[i]);
+        i += 1;
     }
 }
 
