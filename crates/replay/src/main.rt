@@ -1,4 +1,7 @@
 // Runs scripts of store calls from standard input, and prints what each call answers.
+ghost use mathlib.Core.Path.{_≡_};
+ghost use Prim.Native.Nat.{_≤_};
+ghost use lib.ListN.{length};
 use console::Output;
 use gap_quarantine::Quarantine;
 use libc::STDIN_FILENO;
@@ -7,35 +10,42 @@ mod calls; // calls.rt: the calls that may change the store
 mod dump; // dump.rt: the whole store as text
 mod print; // print.rt: answers as text
 mod reads; // reads.rt: the calls that only read
-mod script; // script.rt: a script's bytes
 
 // How long standard input may be.
 const INPUT: usize = 1048576;
 
-// One call, which is whole; the store after it.
-fn run_call(out: &mut Output, q: Quarantine, s: &[u8]) -> Quarantine {
-    match script::byte_at(s, 1) {
-        b'P' => calls::push(out, q, s),
-        b'Q' | b'M' => calls::poll(out, q, s),
-        b'W' => calls::sweep(out, q, s),
-        b'G' => calls::guard(out, q, s),
-        b'E' => calls::enter(out, q, s),
-        b'R' => calls::reorganise(out, q, s),
-        b'F' => calls::finalise(out, q, s),
-        b'V' => calls::evict(out, q, s),
-        _ => {
-            reads::read(out, q, s);
-            q
-        }
-    }
+// A call that was run: its size in bytes, 0 where no call stands, and the store after it.
+struct Ran {
+    size: usize,
+    store: Quarantine,
 }
 
-// A call's mark, between spaces.
-fn mark(out: &mut Output, s: &[u8]) {
-    if 2 <= s.len() {
-        print::text(out, b" ");
-        print::text(out, &s[0..2]);
-        print::text(out, b" ");
+// No call stands here.
+fn no_call(q: Quarantine) -> Ran
+    ensures { λ r. ⌜ r .size ≡ 0 ⌝ }
+{
+    Ran { size: 0, store: q }
+}
+
+// Runs the call that the bytes begin with. A mark that is none of this program's own is a trace's, or none.
+fn run_call(out: &mut Output, q: Quarantine, s: &[u8]) -> Ran
+    ensures { λ r. ⌜ r .size ≤ length (now (s .entry)) ⌝ }
+{
+    if s.len() < 2 {
+        return no_call(q);
+    }
+    if s[0] != b'C' {
+        return no_call(q);
+    }
+    let letter = s[1];
+    match letter {
+        b'M' => calls::short_poll(out, q, s),
+        b'W' => calls::sweep(out, q, s),
+        b'S' | b'B' | b'T' | b'L' | b'N' | b'C' | b'K' | b'H' | b'D' => Ran {
+            size: reads::read(out, q, letter, s),
+            store: q,
+        },
+        _ => calls::trace_call(out, q, letter, s),
     }
 }
 
@@ -46,19 +56,16 @@ fn run_script(out: &mut Output, s: &[u8]) {
     let mut place: u64 = 0;
     while at < s.len() {
         print::number(out, place);
-        let size = script::call_size(&s[at..]);
-        if size < 2 {
+        let ran = run_call(out, q, &s[at..]);
+        let size = ran.size;
+        if size == 0 {
             print::text(out, b" bad\n");
             return;
         }
-        if s.len() - at < size {
-            return;
-        }
-        let end = at + size;
-        mark(out, &s[at..end]);
-        q = run_call(out, q, &s[at..end]);
         print::text(out, b"\n");
-        at = end;
+        let store = ran.store;
+        q = store;
+        at += size;
         place += 1;
     }
 }
@@ -80,7 +87,7 @@ fn next_script(left: usize, script: &mut [u8]) -> Next {
     if got < 4 || left < 4 {
         return Next::Bad;
     }
-    let len = script::count_at(&head, 0) + 65536 * script::count_at(&head, 2);
+    let len = wire::number(&head, 0, 4) as usize;
     if script.len() < len || left - 4 < len {
         return Next::Bad;
     }

@@ -8,6 +8,7 @@ use gap_quarantine::FrameState;
 use gap_quarantine::NonceConsumed;
 use gap_quarantine::Whose;
 use refusal::Refusal;
+use trace_calls::Reply;
 
 // A word and how many are listed.
 pub(crate) fn count(out: &mut Output, word: &[u8], n: usize) {
@@ -84,55 +85,64 @@ pub(crate) fn whose(out: &mut Output, w: Whose) {
     next(out, w.place as u64);
 }
 
-// What a call answers, before its list, and how many it lists.
-pub(crate) fn answer(out: &mut Output, a: Answer) -> usize {
+// What a call answers: a word, how many it lists, and its list. Rows have 19 numbers or five; of a dead frame there are three
+// numbers and two hashes.
+pub(crate) fn answer(out: &mut Output, a: Answer, list: &[u64], hashes: &[u8]) {
     match a {
-        Answer::Total(n) => {
-            count(out, b"total", n);
-            0
-        }
+        Answer::Total(n) => count(out, b"total", n),
         Answer::Rows(n) => {
             count(out, b"rows", n);
-            n
+            rows(out, list, 19, hashes, 0, n);
         }
         Answer::ShortRows(n) => {
             count(out, b"short", n);
-            n
+            rows(out, list, 5, hashes, 0, n);
         }
-        Answer::Recorded => {
-            text(out, b"done");
-            0
-        }
+        Answer::Recorded => text(out, b"done"),
         Answer::Frames(n) => {
             count(out, b"tickets", n);
-            n
+            numbers(out, list, n);
         }
         Answer::Dead(n) => {
             count(out, b"dead", n);
-            n
+            rows(out, list, 3, hashes, 2, n);
         }
-        Answer::Refused(x) => {
-            refused(out, x);
-            0
-        }
+        Answer::Refused(x) => refused(out, x),
+    }
+}
+
+// Whether a frame entered, and whose it is.
+fn entered(out: &mut Output, w: Whose) {
+    let found = w.found;
+    truth(out, found);
+    if found {
+        whose(out, w);
+    }
+}
+
+// What a call of a trace replies.
+pub(crate) fn reply(out: &mut Output, r: Reply, w: Whose, list: &[u64], hashes: &[u8]) {
+    match r {
+        Reply::Answered(a) => answer(out, a, list, hashes),
+        Reply::Entered => entered(out, w),
     }
 }
 
 // ---- lists
 
 // Rows of so many numbers and so many hashes of 32 bytes, each row behind a bar.
-pub(crate) fn rows_with_hashes(
+pub(crate) fn rows(
     out: &mut Output,
     list: &[u64],
     width: usize,
     bytes: &[u8],
     hashes: usize,
-    rows: usize,
+    count: usize,
 ) {
     let mut at = 0;
     let mut from = 0;
     let mut i = 0;
-    while i < rows {
+    while i < count {
         if list.len() - at < width {
             return;
         }
@@ -143,22 +153,6 @@ pub(crate) fn rows_with_hashes(
         from = parts(out, bytes, from, 32, hashes);
         i += 1;
     }
-}
-
-// Rows of so many numbers, each behind a bar.
-fn rows(out: &mut Output, list: &[u64], width: usize, rows: usize) {
-    let none = [0u8; 0];
-    rows_with_hashes(out, list, width, &none, 0, rows);
-}
-
-// A poll's answer and its rows, which are as wide as the answer says.
-pub(crate) fn polled(out: &mut Output, a: Answer, list: &[u64]) {
-    let n = answer(out, a);
-    if let Answer::ShortRows(_) = a {
-        rows(out, list, 5, n);
-        return;
-    }
-    rows(out, list, 19, n);
 }
 
 // So many parts of one width, from an offset on; the offset behind them.

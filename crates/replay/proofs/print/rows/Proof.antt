@@ -1,14 +1,14 @@
 use Prim.Native.Nat.{_-_, _≤_}
 use lib.ListN.{length}
 use borrow.Author.Needs.{needs}
-use Rattle.replay.proofs.print.rows_with_hashes.Statement.{statement}
-use Rattle.replay.proofs.print.rows_with_hashes.Tie as tie
+use Rattle.replay.proofs.print.rows.Statement.{statement}
+use Rattle.replay.proofs.print.rows.Tie as tie
 
 abbrev Inv-loop : tie.InvT-loop
-Inv-loop out₀ list width bytes hashes rows at₀ from₀ i₀ t11 out at from i = at ≤ length list
+Inv-loop out₀ list width bytes hashes count at₀ from₀ i₀ t11 out at from i = at ≤ length list
 
 abbrev μ-loop : tie.MeasureT-loop
-μ-loop out₀ list width bytes hashes rows at₀ from₀ i₀ t11 out at from i = rows - i
+μ-loop out₀ list width bytes hashes count at₀ from₀ i₀ t11 out at from i = count - i
 
 loop-holds : tie.Need-loop-holds Inv-loop μ-loop
 loop-holds c = search needs
@@ -58,8 +58,8 @@ loop-again c = search needs
 returns-2 : tie.Need-returns-2 Inv-loop μ-loop
 returns-2 c = search needs
 
-pub rows-with-hashes-spec : {M : Type 1} → statement M
-rows-with-hashes-spec =
+pub rows-spec : {M : Type 1} → statement M
+rows-spec =
     tie.close
     (tie.spec
     Inv-loop
