@@ -113,6 +113,9 @@ LIFE = [
     LEN,
 ]
 
+# refusal 1 and the largest claims
+LARGEST = [push(expected=LAST - 16, claim=LAST), push(expected=LAST - 17, claim=LAST), LEN]
+
 EXAMPLES = [
     # the starred examples of the store, in document 01's order
     [push(), poll(5, (5, 6, 7)), DUMP],
@@ -126,8 +129,7 @@ EXAMPLES = [
     [push(expected=9, claim=8), poll(8)],
     [push(), enter(1, 100), final(99), LEN, final(100), LEN],
     [push(), enter(1, 100), reorg(100, H), state(), reorg(100), state()],
-    # refusal 1 and the largest claims
-    [push(expected=LAST - 16, claim=LAST), push(expected=LAST - 17, claim=LAST), LEN],
+    LARGEST,
 ]
 
 REFUSALS = [
@@ -147,6 +149,9 @@ REFUSALS = [
     [repark(list(range(17)), H), repark([5], H + b"\1"), repark([5], H * 17), repark(list(range(16)), H * 16), DUMP],
     # 8: a 65th guard; a guard of a hash that has one
     [repark([5], H, hash_=numbered(n)) for n in range(65)] + [repark([6], H, hash_=numbered(7))],
+]
+
+SWEEP_REFUSALS = [
     # 17: 65 senders; a sender too short; a head without a count; 64 senders
     [
         push(),
@@ -251,7 +256,7 @@ def main():
         return write(LIFE)
     if sys.argv[1:]:
         sys.exit(__doc__)
-    for script in EXAMPLES + REFUSALS + CALLS + BAD:
+    for script in EXAMPLES + REFUSALS + SWEEP_REFUSALS + CALLS + BAD:
         write(script)
     # input that breaks off in a script's length
     sys.stdout.buffer.write(b"\1\0")
