@@ -4,6 +4,7 @@ mod sayings;
 pub mod hex;
 pub mod intended;
 pub mod journal;
+pub mod program;
 pub mod random;
 mod report;
 pub mod scratch;

@@ -1,24 +1,27 @@
-//! Holds our store and journal beside the published Rust: document 01's examples, random scripts, all short runs, the order
-//! rule, slices of all lengths, random journals, cuts, restores, records written, and wrong rules. The last line has the counts
-//! and the number of differences. A run fails by a difference, by a wrong rule that was not caught, and by a kind of answer that
-//! was not seen.
+//! Holds our store and journal beside the published Rust: document 01's examples, random scripts, all short runs, random traces,
+//! the order rule, slices of all lengths, random journals, cuts, restores, records written, and wrong rules. The last line has the
+//! counts and the number of differences. A run fails by a difference, by a wrong rule that was not caught, and by a kind of answer
+//! that was not seen.
 //!
-//! compare [--replay PROGRAM] [--short-slices PROGRAM] [--calls N] [--orders N] [--journals N] [--records N] [--seed N]
+//! compare [--replay PROGRAM] [--short-slices PROGRAM] [--trace PROGRAM] [--calls N] [--traces N] [--orders N] [--journals N]
+//!     [--records N] [--seed N]
 use beside::intended;
 use beside::journal::original::Original;
 use beside::journal::ours::{ours, Ours};
 use beside::journal::writing::{compare as writers, strength as writer_strength, wrong as writer_wrong};
 use beside::journal::{compare as journals, strength as journal_strength, wrong as journal_wrong};
+use beside::program::Program;
 use beside::scratch::Scratch;
 use beside::seen::{self, Seen};
 use beside::store::menu::{menu, LONGEST};
-use beside::store::replay::Replay;
+use beside::store::trace::{compare as traces, strength as trace_strength, wrong as trace_wrong};
 use beside::store::{compare as stores, order, slices, strength as store_strength, wrong as store_wrong};
 use std::path::Path;
 use std::process::ExitCode;
 
-/// How many random scripts, how many journals, and how many values to write, a wrong rule is looked for in.
+/// How many random scripts, traces, journals, and values to write, a wrong rule is looked for in.
 const SCRIPTS_FOR_WRONG: u64 = 3000;
+const TRACES_FOR_WRONG: u64 = 1500;
 const JOURNALS_FOR_WRONG: u64 = 6000;
 const VALUES_FOR_WRONG: u64 = 20_000;
 
@@ -27,23 +30,27 @@ const JOURNALS_CUT: u64 = 200;
 
 struct Sizes {
     calls: usize,
+    traces: u64,
     orders: u64,
     journals: u64,
     records: u64,
     seed: u64,
     replay: Option<String>,
     short_slices: Option<String>,
+    trace: Option<String>,
 }
 
 fn sizes() -> Sizes {
     let mut sizes = Sizes {
         calls: 1_200_000,
+        traces: 3000,
         orders: 100_000,
         journals: 100_000,
         records: 150_000,
         seed: 0,
         replay: None,
         short_slices: None,
+        trace: None,
     };
     let mut words = std::env::args().skip(1);
     while let Some(word) = words.next() {
@@ -52,7 +59,9 @@ fn sizes() -> Sizes {
         match word.as_str() {
             "--replay" => sizes.replay = Some(value),
             "--short-slices" => sizes.short_slices = Some(value),
+            "--trace" => sizes.trace = Some(value),
             "--calls" => sizes.calls = number() as usize,
+            "--traces" => sizes.traces = number(),
             "--orders" => sizes.orders = number(),
             "--journals" => sizes.journals = number(),
             "--records" => sizes.records = number(),
@@ -66,7 +75,8 @@ fn sizes() -> Sizes {
 /// What is held beside the Rust, and what a run comes to.
 struct Run<'a> {
     sizes: &'a Sizes,
-    replay: Option<&'a Replay>,
+    replay: Option<&'a Program>,
+    trace: Option<&'a Program>,
     linked: Option<&'a dyn Ours>,
     original: &'a Original,
     folder: &'a Path,
@@ -111,6 +121,14 @@ impl Run<'_> {
         self.seen.add(&largest.seen);
         self.counts.push(format!("{} store calls", random.calls + short.calls + largest.calls));
         self.counts.push(format!("{} random scripts and {} short runs", random.scripts, short.scripts));
+    }
+
+    fn traces(&mut self) {
+        let random = traces::random(self.sizes.seed, self.sizes.traces, self.trace);
+        println!("traces, random: {random}");
+        self.differences += random.unread + random.model + random.program;
+        self.seen.add(&random.seen);
+        self.counts.push(format!("{} traces of {} calls", random.traces, random.calls));
     }
 
     fn slices(&mut self) {
@@ -187,6 +205,10 @@ impl Run<'_> {
         let store = store_wrong::ALL;
         let answers = store_strength::answered(seed, SCRIPTS_FOR_WRONG);
         let in_store = store.iter().filter(|(w, says)| store_strength::catches(*w, says, &answers)).count();
+        println!("wrong rules for traces:");
+        let trace = trace_wrong::ALL;
+        let answers = trace_strength::answered(seed, TRACES_FOR_WRONG);
+        let in_trace = trace.iter().filter(|(w, says)| trace_strength::catches(*w, says, &answers)).count();
         println!("wrong rules for the journal:");
         let journal = journal_wrong::ALL;
         let answers = journal_strength::answered(seed, JOURNALS_FOR_WRONG, self.original);
@@ -196,7 +218,8 @@ impl Run<'_> {
         let writer = writer_wrong::ALL;
         let cases = writer_strength::cases(seed, VALUES_FOR_WRONG);
         let in_writer = writer.iter().filter(|(w, says)| writer_strength::catches(*w, says, &cases)).count();
-        let caught = [(in_store, store.len()), (in_journal, journal.len()), (in_writer, writer.len())];
+        let caught =
+            [(in_store, store.len()), (in_trace, trace.len()), (in_journal, journal.len()), (in_writer, writer.len())];
         let says = caught.map(|(caught, all)| format!("{caught} of {all}"));
         self.counts.push(format!("wrong rules caught {}", says.join(" and ")));
         caught.iter().all(|(caught, all)| caught == all)
@@ -215,10 +238,11 @@ impl Run<'_> {
     fn sides(&self) -> String {
         let replay = (self.replay.is_some(), "replay");
         let slices = (self.sizes.short_slices.is_some(), "short_slices");
+        let trace = (self.trace.is_some(), "trace");
         let linked = (self.linked.is_some(), "the C functions of fold, restore and writing");
         let named = |wanted: bool| {
-            let of = [replay, slices, linked].into_iter().filter(|(given, _)| *given == wanted).map(|(_, name)| name);
-            of.collect::<Vec<&str>>().join(", ")
+            let of = [replay, slices, trace, linked].into_iter().filter(|(given, _)| *given == wanted);
+            of.map(|(_, name)| name).collect::<Vec<&str>>().join(", ")
         };
         match (named(true), named(false)) {
             (given, none) if none.is_empty() => format!("the Rust beside {given}, and the model"),
@@ -231,12 +255,14 @@ impl Run<'_> {
 fn main() -> ExitCode {
     let sizes = sizes();
     let scratch = Scratch::new();
-    let replay = sizes.replay.as_ref().map(|program| Replay::new(Path::new(program), scratch.path()));
+    let program = |path: &String| Program::new(Path::new(path), scratch.path());
+    let (replay, trace) = (sizes.replay.as_ref().map(program), sizes.trace.as_ref().map(program));
     let linked = ours();
     let original = Original::new(scratch.path());
     let mut run = Run {
         sizes: &sizes,
         replay: replay.as_ref(),
+        trace: trace.as_ref(),
         linked: linked.as_deref(),
         original: &original,
         folder: scratch.path(),
@@ -246,6 +272,7 @@ fn main() -> ExitCode {
     };
     run.examples();
     run.store();
+    run.traces();
     run.slices();
     run.orders();
     run.journal();

@@ -1,9 +1,9 @@
-//! Writes frozen answers: scripts and journals as standard input of programs, and the Rust's own answers as what they print. The
-//! sender and the place of an entry, and what is printed of records that are written again, are the driver's own.
+//! Writes frozen answers: scripts, a trace and journals as standard input of programs, and the Rust's own answers as what they
+//! print. The sender and the place of an entry, and what is printed of records that are written again, are the driver's own.
 //!
-//! freeze FOLDER: writes FOLDER/scripts/stdin, FOLDER/scripts/stdout, FOLDER/journals/stdin and FOLDER/journals/stdout.
+//! freeze FOLDER: writes stdin and stdout in each of FOLDER/scripts, FOLDER/trace and FOLDER/journals.
 //! The sample has document 01's examples, the scripts that the manual shows, a smallest input for each wrong rule, inputs at each
-//! limit, and random ones.
+//! limit, and random ones. The trace is made of the scripts that the manual shows.
 use beside::journal::items::Item;
 use beside::journal::original::Original as Journal;
 use beside::journal::outcome::{Restored, ENOUGH, JOURNAL_LIMIT};
@@ -16,7 +16,9 @@ use beside::store::answers::Answer;
 use beside::store::calls::Call;
 use beside::store::due::Due;
 use beside::store::generate::{long_script, script, unswept_script};
-use beside::store::script::{led, Script};
+use beside::store::script::{bytes_of, led, Script};
+use beside::store::trace::lines::{lines, places};
+use beside::store::trace::wrong::{Wrong as Misread, ALL as MISREAD};
 use beside::store::{self, strength as stores};
 use std::collections::BTreeSet;
 use std::fs;
@@ -52,6 +54,27 @@ const POLL_REFUSALS: [u8; 2] = [3, 4];
 
 /// The refusals that a sweep can meet in a script.
 const SWEEP_REFUSALS: [u8; 3] = [17, 18, 3];
+
+/// The wrong rules for traces that are not told by one trace, within the limit and whole up to a last call that is cut short.
+const NOT_BY_ONE: [Misread; 17] = [
+    Misread::MarksOfScripts,
+    Misread::MarkBySecond,
+    Misread::OptionalTwo,
+    Misread::OptionalAnyPresent,
+    Misread::OptionalAnyAbsent,
+    Misread::GuardKindZero,
+    Misread::GuardKindThree,
+    Misread::EnterKindZero,
+    Misread::EnterKindFour,
+    Misread::ByteLeft,
+    Misread::LimitOneMore,
+    Misread::LimitOneLess,
+    Misread::LimitIgnored,
+    Misread::LimitRunsUp,
+    Misread::LimitBehind,
+    Misread::RunsOn,
+    Misread::EmptyRefused,
+];
 
 /// The refusals that random journals with a long output, and records alone, meet.
 const FOLD_REFUSALS: [u8; 3] = [10, 11, 12];
@@ -136,6 +159,38 @@ fn freeze_scripts(folder: &Path) {
     output.push_str("bad input\n");
     write(folder, &input, &output);
     println!("scripts: {}, standard input {} bytes, output {} bytes", list.len(), input.len(), output.len());
+}
+
+// ---- the trace
+
+/// Which optional values a call has, or its kind.
+fn form(call: &Call) -> u8 {
+    match call {
+        Call::Poll { content, .. } => u8::from(content.is_some()),
+        Call::Guard(g) => u8::from(g.boundary.is_some()),
+        Call::Enter { consumed, .. } => consumed.kind,
+        Call::Reorg { hash, .. } => u8::from(hash.is_some()),
+        _ => 0,
+    }
+}
+
+fn freeze_trace(folder: &Path) {
+    let mut input = bytes_of(&store::manual::traced());
+    // the last call is cut short
+    input.pop();
+    let output = lines(&input, None);
+    let read = places(&input, None);
+    let forms: BTreeSet<(&str, u8)> = read.iter().flatten().map(|call| (call.mark(), form(call))).collect();
+    assert_eq!(forms.len(), 12, "every call in every form stands in the trace");
+    for number in STORE_REFUSALS {
+        assert!(output.contains(&format!(" {number}\n")), "refusal {number} stands in the trace");
+    }
+    assert!(output.ends_with(" 19\n"), "the trace ends so");
+    let tells = |wrong: Misread| lines(&input, Some(wrong)) != output;
+    let untold: Vec<Misread> = MISREAD.iter().map(|(wrong, _)| *wrong).filter(|wrong| !tells(*wrong)).collect();
+    assert_eq!(untold, NOT_BY_ONE, "what the trace does not tell");
+    write(folder, &input, &output);
+    println!("trace: {} lines, standard input {} bytes, output {} bytes", read.len(), input.len(), output.len());
 }
 
 // ---- journals
@@ -266,5 +321,6 @@ fn write(folder: &Path, input: &[u8], output: &str) {
 fn main() {
     let folder = std::env::args().nth(1).expect("freeze FOLDER");
     freeze_scripts(&Path::new(&folder).join("scripts"));
+    freeze_trace(&Path::new(&folder).join("trace"));
     freeze_journals(&Path::new(&folder).join("journals"));
 }

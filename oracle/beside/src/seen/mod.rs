@@ -1,11 +1,13 @@
-//! What a run has met: each refusal and each kind of answer, counted from the Rust's own answers, and for sender and place and
-//! for the writers of records from the comparison's own. A kind that a run did not meet fails it.
+//! What a run has met: each refusal and each kind of answer, counted from the Rust's own answers, and for sender and place, for
+//! what stands in a trace and for the writers of records from the comparison's own. A kind that a run did not meet fails it.
 mod journal;
 mod store;
+mod trace;
 
 pub use journal::{see_fold, see_restore, see_write};
 use std::collections::BTreeMap;
 pub use store::see_call;
+pub use trace::see_trace;
 
 sayings! { Kind {
     Push1: "push refused 1",
@@ -113,6 +115,24 @@ sayings! { Kind {
     HasGuardFalse: "has_guard_for_sender: false",
     Dump: "dump",
     Bad: "script that breaks off: bad",
+    TraceWhole: "trace: whole, with calls",
+    TraceEmpty: "trace: empty",
+    TraceFull: "trace: exactly 65,536 bytes",
+    Trace1: "trace: a line with 1",
+    Trace2: "trace: a line with 2",
+    Trace3: "trace: a line with 3",
+    Trace4: "trace: a line with 4",
+    Trace6: "trace: a line with 6",
+    Trace7: "trace: a line with 7",
+    Trace8: "trace: a line with 8",
+    TraceMark: "trace refused 19: an unknown mark",
+    TraceOptional: "trace refused 19: an optional byte above 1",
+    TraceGuardKind: "trace refused 19: a guard of an unknown kind",
+    TraceEnterKind: "trace refused 19: an entering of an unknown kind",
+    TraceCut: "trace refused 19: a call cut short",
+    TraceLimit: "trace refused 19: over 65,536 bytes",
+    TraceFirst: "trace refused 19 in place 0",
+    TraceLater: "trace refused 19 in a later place",
     List5: "list refused 5, but for a short poll's and a sweep's",
     ListExact: "list in a slice just long enough",
     ListPast: "list in a longer slice",

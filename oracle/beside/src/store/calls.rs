@@ -142,6 +142,11 @@ impl Call {
         }
     }
 
+    /// The calls that a trace may have.
+    pub fn is_traced(&self) -> bool {
+        TRACE_MARKS.iter().any(|mark| mark[..] == *self.mark().as_bytes())
+    }
+
     /// The calls that may change the store.
     pub fn changes(&self) -> bool {
         matches!(
@@ -157,6 +162,9 @@ impl Call {
         )
     }
 }
+
+/// The marks of the calls that a trace may have.
+pub const TRACE_MARKS: [&[u8; 2]; 7] = [b"CP", b"CQ", b"CG", b"CE", b"CR", b"CF", b"CV"];
 
 /// Something that answers calls: the Rust, a model of document 01, or what is due by both.
 pub trait Side {

@@ -5,11 +5,12 @@ use super::calls::{Address, Call, Frame, Side, Sweep};
 use super::due::Due;
 use super::model::Model;
 use super::original::Original;
-use super::replay::{first_difference, Batch, Replay};
+use super::replay::{first_difference, Batch};
 use super::script::{led, Script, SCRIPT_LIMIT};
 use super::strength::show;
 use super::{generate, menu};
 use crate::hex::hex;
+use crate::program::Program;
 use crate::report::tell;
 use crate::seen::{see_call, Kind, Seen};
 use crate::shrink::shrink;
@@ -36,12 +37,12 @@ impl fmt::Display for Counts {
 /// Runs scripts on the Rust, on the model, and on our program if there is one.
 pub struct Comparison<'a> {
     pub counts: Counts,
-    replay: Option<&'a Replay>,
+    replay: Option<&'a Program>,
     batch: Batch,
 }
 
 impl<'a> Comparison<'a> {
-    pub fn new(replay: Option<&'a Replay>) -> Self {
+    pub fn new(replay: Option<&'a Program>) -> Self {
         Comparison { counts: Counts::default(), replay, batch: Batch::default() }
     }
 
@@ -106,21 +107,22 @@ impl<'a> Comparison<'a> {
 }
 
 /// The smallest script on which our program does not print what is due, with both.
-fn show_replay(script: &Script, replay: &Replay) {
+fn show_replay(script: &Script, replay: &Program) {
     let with = |calls: &[Call]| Script { calls: calls.to_vec(), broken: script.broken.clone() };
     let due = |script: &Script| script.lines(0, &mut Due::default()).0;
-    let differ = |calls: &[Call]| due(&with(calls)) != replay.lines(&with(calls));
+    let printed = |script: &Script| replay.run(&led(&script.bytes()));
+    let differ = |calls: &[Call]| due(&with(calls)) != printed(&with(calls));
     if !differ(&script.calls) {
         return println!("  the script alone shows no difference");
     }
     let smallest = with(&shrink(&script.calls, differ));
     println!("  smallest script: {}", hex(&smallest.bytes()));
     smallest.calls.iter().for_each(|call| println!("    {}", brief(call)));
-    print!("  due:\n{}  replay:\n{}", due(&smallest), replay.lines(&smallest));
+    print!("  due:\n{}  replay:\n{}", due(&smallest), printed(&smallest));
 }
 
 /// Document 01's examples: the answers that it states, from the Rust and from the others. Says how many hold.
-pub fn examples(replay: Option<&Replay>) -> (usize, Counts) {
+pub fn examples(replay: Option<&Program>) -> (usize, Counts) {
     let mut comparison = Comparison::new(replay);
     let mut hold = 0;
     for example in super::examples::examples() {
@@ -140,7 +142,7 @@ pub fn examples(replay: Option<&Replay>) -> (usize, Counts) {
 
 /// Standard input that breaks off in a script's length, or has a script over the limit: the lines of the scripts before, and
 /// `bad input`. Says how many of the inputs our program does not answer so.
-pub fn bad_inputs(replay: &Replay) -> usize {
+pub fn bad_inputs(replay: &Program) -> usize {
     let script = generate::script(1);
     let before = led(&script.bytes());
     let expected = script.lines(0, &mut Due::default()).0 + "bad input\n";
@@ -159,7 +161,7 @@ pub fn bad_inputs(replay: &Replay) -> usize {
 }
 
 /// Random scripts until so many calls are made.
-pub fn random(seed: u64, calls: usize, replay: Option<&Replay>) -> Counts {
+pub fn random(seed: u64, calls: usize, replay: Option<&Program>) -> Counts {
     let mut comparison = Comparison::new(replay);
     let mut next = seed;
     while comparison.counts.calls < calls {
@@ -178,7 +180,7 @@ fn pushes(sender: Address, count: u64) -> Vec<Call> {
 
 /// The largest sweeps that a script has room for: a sender of 64 frames listed 64 times, which has 4,096 rows; 31 senders with 256
 /// nonces each, of which only the last are of the gap; and no sender with 8,190 nonces.
-pub fn largest_sweeps(replay: Option<&Replay>) -> Counts {
+pub fn largest_sweeps(replay: Option<&Program>) -> Counts {
     let sender = [1; 20];
     let mut rows = pushes(sender, 64);
     rows.push(Call::sweep(&[(sender, 5, &[][..]); 64]));
@@ -199,7 +201,7 @@ pub fn largest_sweeps(replay: Option<&Replay>) -> Counts {
 }
 
 /// Every run of up to four calls of the menu.
-pub fn short_runs(replay: Option<&Replay>) -> Counts {
+pub fn short_runs(replay: Option<&Program>) -> Counts {
     let mut comparison = Comparison::new(replay);
     menu::scripts().for_each(|script| comparison.script(script));
     comparison.finish();

@@ -1,4 +1,5 @@
-//! The scripts that README.md and docs/ANSWERS.md show: the life of one frame, and the answers of each call.
+//! The scripts that README.md and docs/ANSWERS.md show: the life of one frame, and the answers of each call; and the trace of the
+//! tests, made of them.
 use super::calls::{Address, Call, Consumed, Content, Frame, GuardCall, Hash, Sweep};
 
 const A: Address = [1; 20];
@@ -349,4 +350,14 @@ pub fn answers() -> Vec<Vec<Call>> {
     let long =
         [push_scripts(), poll_scripts(), guard_scripts(), block_scripts(), reading_scripts(), corner_scripts()].concat();
     [long, short_scripts(), sweep_scripts()].concat()
+}
+
+/// One trace of the calls that a trace may have: the life of F, then what the scripts of each call have of them. The senders are
+/// evicted behind each script, so that the next one finds no frame.
+pub fn traced() -> Vec<Call> {
+    let scripts = [vec![life()], push_scripts(), poll_scripts(), guard_scripts(), block_scripts()].concat();
+    let evictions = [A, B, C].map(|sender| Call::Evict { sender });
+    let mut calls: Vec<Call> = scripts.into_iter().flat_map(|script| [script, evictions.to_vec()].concat()).collect();
+    calls.retain(Call::is_traced);
+    calls
 }

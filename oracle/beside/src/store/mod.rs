@@ -1,4 +1,4 @@
-//! The store: calls, answers, the Rust, a model of document 01, and where their inputs come from.
+//! The store: calls, answers, the Rust, a model of document 01, where their inputs come from, and traces of calls.
 pub mod answers;
 mod brief;
 pub mod calls;
@@ -12,9 +12,11 @@ pub mod menu;
 pub mod model;
 pub mod order;
 pub mod original;
+pub mod reading;
 mod refusals;
 pub mod replay;
 pub mod script;
 pub mod slices;
 pub mod strength;
+pub mod trace;
 pub mod wrong;

@@ -1,6 +1,7 @@
 //! Scripts as bytes: calls one after another, and perhaps a broken call at the end.
 use super::answers::Answer;
-use super::calls::{Address, Call, Consumed, Content, Form, Frame, GuardCall, Hash, Side, Sweep};
+use super::calls::{Call, Side};
+use super::reading::Reader;
 use std::fmt::Write;
 
 /// The longest script and the longest standard input that `replay` takes.
@@ -16,10 +17,7 @@ pub struct Script {
 
 impl Script {
     pub fn bytes(&self) -> Vec<u8> {
-        let mut out = Vec::new();
-        for call in &self.calls {
-            write_call(call, &mut out);
-        }
+        let mut out = bytes_of(&self.calls);
         out.extend_from_slice(&self.broken);
         out
     }
@@ -65,6 +63,13 @@ fn put_numbers(list: &[u64], out: &mut Vec<u8>) {
 fn put_bytes(list: &[u8], out: &mut Vec<u8>) {
     put_count(list.len(), out);
     out.extend_from_slice(list);
+}
+
+/// The bytes of these calls, one after another.
+pub fn bytes_of(calls: &[Call]) -> Vec<u8> {
+    let mut out = Vec::new();
+    calls.iter().for_each(|call| write_call(call, &mut out));
+    out
 }
 
 pub fn write_call(call: &Call, out: &mut Vec<u8>) {
@@ -136,145 +141,17 @@ pub fn write_call(call: &Call, out: &mut Vec<u8>) {
     }
 }
 
-// ---- reading, for the model behind replay's formats, and to know that broken bytes are broken
-
-struct Reader<'a>(&'a [u8]);
-
-impl<'a> Reader<'a> {
-    fn take(&mut self, count: usize) -> Option<&'a [u8]> {
-        let part = self.0.get(..count)?;
-        self.0 = &self.0[count..];
-        Some(part)
-    }
-
-    fn byte(&mut self) -> Option<u8> {
-        Some(self.take(1)?[0])
-    }
-
-    fn number(&mut self) -> Option<u64> {
-        Some(u64::from_le_bytes(self.take(8)?.try_into().ok()?))
-    }
-
-    fn hash(&mut self) -> Option<Hash> {
-        self.take(32)?.try_into().ok()
-    }
-
-    fn address(&mut self) -> Option<Address> {
-        self.take(20)?.try_into().ok()
-    }
-
-    fn count(&mut self) -> Option<usize> {
-        Some(usize::from(u16::from_le_bytes(self.take(2)?.try_into().ok()?)))
-    }
-
-    fn numbers(&mut self) -> Option<Vec<u64>> {
-        let count = self.count()?;
-        (0..count).map(|_| self.number()).collect()
-    }
-
-    fn bytes(&mut self) -> Option<Vec<u8>> {
-        let count = self.count()?;
-        Some(self.take(count)?.to_vec())
-    }
-
-    fn optional(&mut self) -> Option<bool> {
-        match self.byte()? {
-            0 => Some(false),
-            1 => Some(true),
-            _ => None,
-        }
-    }
-
-    fn poll(&mut self, form: Form) -> Option<Call> {
-        Some(Call::Poll {
-            form,
-            sender: self.address()?,
-            head: self.number()?,
-            known: self.numbers()?,
-            content: match self.optional()? {
-                false => None,
-                true => Some(Content { nonces: self.numbers()?, hashes: self.bytes()? }),
-            },
-        })
-    }
-
-    fn call(&mut self) -> Option<Call> {
-        Some(match self.take(2)? {
-            b"CP" => Call::Push(Frame {
-                hash: self.hash()?,
-                from: self.address()?,
-                expected: self.number()?,
-                claim: self.number()?,
-                chain_id: self.number()?,
-                gas: self.number()?,
-                ticket: self.number()?,
-            }),
-            b"CQ" => self.poll(Form::Long)?,
-            b"CM" => self.poll(Form::Short)?,
-            b"CW" => Call::Sweep(Sweep {
-                senders: self.bytes()?,
-                heads: self.numbers()?,
-                counts: self.numbers()?,
-                nonces: self.numbers()?,
-            }),
-            b"CG" => {
-                let kind = self.byte()?;
-                let hash = self.hash()?;
-                let predecessors = self.numbers()?;
-                let content = self.bytes()?;
-                let boundary = match kind {
-                    1 => Some(self.number()?),
-                    2 => None,
-                    _ => return None,
-                };
-                Call::Guard(GuardCall { hash, boundary, predecessors, content })
-            }
-            b"CE" => {
-                let hash = self.hash()?;
-                let kind = self.byte()?;
-                let block = self.number()?;
-                let block_hash = self.hash()?;
-                let taker = match kind {
-                    1 | 2 => [0; 32],
-                    3 => self.hash()?,
-                    _ => return None,
-                };
-                Call::Enter { hash, consumed: Consumed { kind, block, block_hash, taker } }
-            }
-            b"CR" => Call::Reorg {
-                block: self.number()?,
-                hash: match self.optional()? {
-                    false => None,
-                    true => Some(self.hash()?),
-                },
-            },
-            b"CF" => Call::Finality { block: self.number()? },
-            b"CV" => Call::Evict { sender: self.address()? },
-            b"CS" => Call::State(self.hash()?),
-            b"CB" => Call::Boundary(self.hash()?),
-            b"CT" => Call::Blocks,
-            b"CL" => Call::Len,
-            b"CN" => Call::Senders,
-            b"CC" => Call::TentativeCount,
-            b"CK" => Call::KnownGap { sender: self.address()?, head: self.number()?, pending_count: self.number()? },
-            b"CH" => Call::HasGuard(self.address()?),
-            b"CD" => Call::Dump,
-            _ => return None,
-        })
-    }
-}
-
 /// The calls of a script's bytes up to its end, or up to the first bytes that are no call.
 pub fn read_script(bytes: &[u8]) -> Script {
     let mut rest = bytes;
     let mut calls = Vec::new();
     while !rest.is_empty() {
-        let mut reader = Reader(rest);
+        let mut reader = Reader::new(rest, None);
         match reader.call() {
-            Some(call) => calls.push(call),
-            None => return Script { calls, broken: rest.to_vec() },
+            Ok(call) => calls.push(call),
+            Err(_) => return Script { calls, broken: rest.to_vec() },
         }
-        rest = reader.0;
+        rest = reader.rest;
     }
     Script { calls, broken: Vec::new() }
 }

@@ -18,7 +18,7 @@ fn differ(wrong: Option<Wrong>, due: &Answer, found: &Answer) -> bool {
 }
 
 /// The first place at which what is due tells a model.
-fn tells(calls: &[Call], wrong: Option<Wrong>) -> Option<usize> {
+pub fn tells(calls: &[Call], wrong: Option<Wrong>) -> Option<usize> {
     let (mut due, mut model) = (Due::default(), Model::with(wrong));
     calls.iter().position(|call| differ(wrong, &due.answer(call), &model.answer(call)))
 }
