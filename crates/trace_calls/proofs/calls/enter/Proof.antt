@@ -1,5 +1,6 @@
 use Prim.Native.Nat.{ℕ}
-use mathlib.Core.Path.{ap, _∙_}
+use native.Mathlib.Omega.{arith}
+use mathlib.Core.Path.{_≡_, ap, _∙_}
 use lib.ListN.{take, drop, getD}
 use borrow.Author.Needs.{needs}
 use Rattle.store_rules.specs.Store.{long}
@@ -53,7 +54,7 @@ no-call-requires-2 c κs = search needs
 returns-4 : tie.Need-returns-4
 returns-4 c =
     let bs = (c .before .before .before .before .before .before .before .before .before .before) .args .bytes .now in
-    λ slice hashes. not-made long ((c .before .before .before .before .before .before .before .before .before .before) .args .q) bs _ slice hashes _ (rw (enter-read bs ((c .before .before .before .before .before .before .before .before) .if1 .left)) (kind-not bs (getD bs 34 0) _ _ ((c .before .before .before .before .before) .if2 .left) ((c .before .before .before) .if3 .left) ((c .before) .if4 .taken))) (c .no-call2 .ensures)
+    λ slice hashes. not-made long ((c .before .before .before .before .before .before .before .before .before .before) .args .q) bs _ slice hashes _ (rw (enter-read bs ((c .before .before .before .before .before .before .before .before) .if1 .left)) (kind-not bs (getD bs 34 0) _ _ ((c .before .before .before .before .before) .if2 .left) ((c .before .before .before) .if3 .left) (λ e. omega (arith, (c .before) .if4 .taken)))) (c .no-call2 .ensures)
 
 no-call-requires-3 : tie.Need-no-call-requires-3
 no-call-requires-3 c κs = search needs
@@ -61,7 +62,8 @@ no-call-requires-3 c κs = search needs
 returns-5 : tie.Need-returns-5
 returns-5 c =
     let bs = (c .before .before .before .before .before .before .before .before .before .before .before) .args .bytes .now in
-    λ slice hashes. not-made long ((c .before .before .before .before .before .before .before .before .before .before .before) .args .q) bs _ slice hashes _ (rw (enter-read bs ((c .before .before .before .before .before .before .before .before .before) .if1 .left), (c .before .before) .if4 .left) (taker-not bs ((c .before) .if5 .taken))) (c .no-call3 .ensures)
+    let k : getD bs 34 0 ≡ 3 = omega (arith, (c .before .before) .if4 .left) in
+    λ slice hashes. not-made long ((c .before .before .before .before .before .before .before .before .before .before .before) .args .q) bs _ slice hashes _ (rw (enter-read bs ((c .before .before .before .before .before .before .before .before .before) .if1 .left), k) (taker-not bs ((c .before) .if5 .taken))) (c .no-call3 .ensures)
 
 hash-at-requires : tie.Need-hash-at-requires
 hash-at-requires c κs = search needs
@@ -73,7 +75,8 @@ returns-6 : tie.Need-returns-6
 returns-6 c =
     let bs = (c .before .before .before .before .before .before .before .before .before .before .before .before) .args .bytes .now in
     let h = (c .before .before .before .before .before .before .before .before .before .before) .if1 .left in
-    let e = ap (λ (k : ℕ). enterBy k (take 32 (drop 2 bs)) (drop 35 bs)) ((c .before .before .before) .if4 .left) in
+    let k : getD bs 34 0 ≡ 3 = omega (arith, (c .before .before .before) .if4 .left) in
+    let e = ap (λ (n : ℕ). enterBy n (take 32 (drop 2 bs)) (drop 35 bs)) k in
     λ slice hashes. made long ((c .before .before .before .before .before .before .before .before .before .before .before .before) .args .q) bs _ _ 107 slice hashes _ slice hashes (enter-read bs h ∙ e ∙ enter-taken-by bs h ((c .before .before) .if5 .left)) ((c .before .before) .if5 .left) (c .enter-by3 .ensures .0) (rw ((c .before .before .before .before .before .before .before .before .before) .number .ensures, (c .before) .hash-at .ensures) at (c .enter-by3 .ensures .1 slice hashes))
 
 pub enter-spec : {M : Type 1} → statement M
