@@ -4,13 +4,14 @@
 life    the life of document 01's frame: the calls of `samples/scripts.py life` but for those that only read
 cut     `life`, cut short in its last call
 full    6,553 calls of 65,536 bytes together, which is as many calls and as many bytes as a trace may have
+polls   64 frames of one sender, and 1,803 polls of it, at which they wait: the longest trace of these
 (none)  every refusal that a trace can meet
 """
 import sys
 
 # no folder of compiled modules is left beside the samples
 sys.dont_write_bytecode = True
-from scripts import LARGEST, LIFE, REFUSALS, evict, final, push, reorg  # noqa: E402
+from scripts import LARGEST, LIFE, REFUSALS, evict, final, poll, push, reorg  # noqa: E402
 
 MARKS = (b"CP", b"CQ", b"CG", b"CE", b"CR", b"CF", b"CV")
 
@@ -31,6 +32,7 @@ TRACES = {
     ("life",): TRACE_OF_LIFE,
     ("cut",): TRACE_OF_LIFE[:-1],
     ("full",): final(0) * 6547 + reorg(0) * 6,
+    ("polls",): b"".join(push(bytes([k]) * 32, ticket=k) for k in range(64)) + poll(5) * 1803,
 }
 
 

@@ -1,3 +1,4 @@
 pub mod ReadingBack
 pub mod Breaking
 pub mod LongEnough
+pub mod Examples
