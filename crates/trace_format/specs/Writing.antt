@@ -7,7 +7,7 @@ use lib.ListN.{length}
 use Rattle.lists.specs.Bytes.{Bytes}
 use Rattle.lists.specs.Lists.{collect, Each}
 use Rattle.wire.specs.Numbers.{digits}
-use Rattle.store_rules.specs.Frames.{Frame, mined, taken, takenBy, ConsumedKind, Consumed, GuardKind, reparked, unhydratable, Guard}
+use Rattle.store_rules.specs.Frames.{Frame, mined, taken, takenBy, ConsumedKind, GuardKind, reparked, unhydratable}
 use Rattle.store_rules.specs.Poll.{Content}
 use Rattle.store_rules.specs.Store.{Call, push, poll, guard, enterTentative, checkReorg, checkFinalized, evictSender}
 use Rattle.store_rules.specs.Answers.{kindNumber}

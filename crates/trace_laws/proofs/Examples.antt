@@ -13,8 +13,13 @@ use Rattle.trace_format.specs.Reading as reading
 use Rattle.trace_format.specs.Traces as traces
 use Rattle.trace_laws.specs.Examples.{eight, frameF, pushF, pollF, enterF, guardF, reorgF, Examples}
 
+-- the definitions that the examples compute with
+computing : Unit {0}
+unfolding bytes.eqBytes lists.keep lists.isEmpty lists.chunks lists.numbersFrom numbers.num frames.degraded polls.gap polls.predecessors polls.unknown polls.guardMatches polls.leave polls.pollFull polls.pollIn polls.pollGiven polls.pollRule rules.onlyOf lookup.entriesOf store.empty store.guardOf store.dropGuard store.rowWidth store.after store.walk store.walked store.fresh store.insert store.effect store.when store.wideGap store.badContent store.inputRefusal store.roomRefusal store.refusal store.unless store.step store.run reading.part reading.byte reading.number reading.list reading.numbers reading.hashes reading.byFlag reading.optional reading.readPush reading.readPoll reading.guardInputs reading.guardBy reading.readGuard reading.blockInputs reading.enterBy reading.readEnter reading.readReorg reading.byMark reading.readCall traces.startingWith traces.readCalls traces.readTrace traces.lent traces.endStore traces.refusalIn traces.refusals traces.linesFrom traces.lines orElse eight frameF pushF pollF enterF guardF reorgF
+computing = tt
+
 pub examples : Examples
-unfolding bytes.eqBytes bytes.leBytes lists.keep lists.isEmpty lists.every lists.collect lists.sum lists.chunks lists.numbersFrom lists.isIn numbers.num numbers.digits frames.isTracked frames.degraded polls.gap polls.predecessors polls.unknown polls.firstIs polls.contentsHold polls.contentMatches polls.boundaryHolds polls.guardMatches polls.stay polls.leave polls.row polls.heldAt polls.pollDegraded polls.pollFull polls.pollIn polls.pollGiven polls.pollRule rules.onlyOf rules.evictRule rules.differs rules.reorgIn rules.reorgRule rules.finalIn rules.finalRule lookup.entriesOf lookup.enters lookup.foundBehind lookup.firstOf lookup.lookup lookup.isFound lookup.enterWith lookup.enterHead lookup.enterFirst store.empty store.guardOf store.isGuarded store.dropGuard store.putGuard store.rowWidth store.after store.walk store.walked store.fresh store.insert store.effect store.when store.wideGap store.badContent store.badContents store.noRoomFor store.inputRefusal store.listed store.rowsOf store.roomRefusal store.refusal store.unless store.step store.run store.calls reading.part reading.byte reading.number reading.list reading.numbers reading.hashes reading.byFlag reading.optional reading.content reading.readPush reading.readPoll reading.guardInputs reading.guardBy reading.readGuard reading.blockInputs reading.enterBy reading.readEnter reading.readReorg reading.readFinal reading.readEvict reading.byMark reading.readCall traces.startingWith traces.readCalls traces.readTrace traces.lent traces.endStore traces.refusalIn traces.refusals traces.linesFrom traces.lines orElse eight frameF pushF pollF enterF guardF reorgF
+unfolding computing
 examples = record {
   rescued = refl;
   rescuedLines = refl;

@@ -2,8 +2,8 @@
 use Prim.Native.Nat.{ℕ}
 use mathlib.Core.Path.{_≡_}
 use mathlib.Core.Bool.{true, false}
-use mathlib.Core.List.{List, [], _∷_, _++_}
-use mathlib.Core.Option.{none, some}
+use mathlib.Core.List.{[], _∷_, _++_}
+use mathlib.Core.Option.{none}
 use lib.ListN.{take, replicate}
 use Rattle.lists.specs.Bytes.{Bytes}
 use Rattle.store_rules.specs.Frames.{Frame, taken, unhydratable}
