@@ -2,3 +2,4 @@ pub mod ReadingBack
 pub mod Breaking
 pub mod LongEnough
 pub mod Examples
+pub mod WritingAgain

@@ -1,5 +1,5 @@
 -- What holds of every trace (request 2027-06).
-use Prim.Native.Nat.{ℕ, _+_, _≤_}
+use Prim.Native.Nat.{ℕ, _+_, _≤_, _<_}
 use mathlib.Core.Path.{_≡_}
 use mathlib.Core.Bool.{true, false}
 use mathlib.Core.List.{List, _++_, map}
@@ -16,6 +16,11 @@ use Rattle.trace_format.specs.Traces.{readTrace, lent, refusals}
 
 abbrev pub ReadsBack : Type 0
 ReadsBack = (cs : List Call) → Each Fits cs → length (collect writeCall cs) ≤ 65536 → readTrace (collect writeCall cs) ≡ record { calls = cs; whole = true }
+
+-- ---- what is read from a whole trace fits the widths, and is written again as the same bytes: so it is the one trace of its calls
+
+abbrev pub WrittenAgain : Type 0
+WrittenAgain = (bs : Bytes) → Each (λ b. b < 256) bs → readTrace bs .whole ≡ true → (collect writeCall (readTrace bs .calls) ≡ bs) × Each Fits (readTrace bs .calls)
 
 -- ---- a trace with a 19
 

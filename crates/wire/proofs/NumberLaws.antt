@@ -1,5 +1,5 @@
 -- Numbers and their bytes, there and back.
-use Prim.Native.Nat.{ℕ, zero, suc, _^_, _<_, _/_}
+use Prim.Native.Nat.{ℕ, zero, suc, _+_, _*_, _^_, _<_, _/_, _%_}
 use native.Mathlib.Omega.{arith}
 use native.Mathlib.Nat.{pow-suc}
 use mathlib.Core.Path.{_≡_, refl, ap}
@@ -24,6 +24,17 @@ num-digits zero n h = omega arith
 num-digits (suc w) n h =
     let q : n / 256 < 256 ^ w = omega (arith, pow-suc 256 w) in
     rw (num-digits w (n / 256) q) (omega arith)
+
+pub digits-num : (w : ℕ) (f : Bytes) → length f ≡ w → Each IsByte f → digits w (num f) ≡ f
+unfolding digits num
+digits-num zero [] l h = refl
+digits-num zero (b ∷ f) l h = absurd (omega arith)
+digits-num (suc w) [] l h = absurd (omega arith)
+digits-num (suc w) (b ∷ f) l h =
+    let p = h .0 in
+    let x : (b + 256 * num f) % 256 ≡ b = omega arith in
+    let y : (b + 256 * num f) / 256 ≡ num f = omega arith in
+    rw (x, y, digits-num w f (omega arith) (h .1))
 
 -- so many bytes stand for a number below 256 to that power
 pub num-below : (bs : Bytes) → Each IsByte bs → num bs < 256 ^ length bs
