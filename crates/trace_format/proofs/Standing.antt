@@ -16,7 +16,7 @@ use Rattle.trace_format.specs.Standing.{EveryCallStands, BadStaysBad}
 
 -- ---- readers
 
-never : {B : Type 0} → _≡_ {A = ℕ} 0 1 → B
+pub never : {B : Type 0} → _≡_ {A = ℕ} 0 1 → B
 never e = absurd (omega arith)
 
 module _ {A : Type 0} where

@@ -21,7 +21,7 @@ use Rattle.store_rules.specs.Store.{Call}
 use Rattle.trace_format.specs.Reading.{got, cutShort, bad, ReadCall, part, byte, number, list, numbers, hashes, byFlag, optional, content, readPush, readPoll, guardInputs, guardBy, readGuard, blockInputs, enterBy, readEnter, readReorg, readFinal, readEvict, markP, markQ, markG, markE, markR, markF, markV, byMark, readCall}
 use Rattle.trace_format.specs.Writing.{numbersWritten, hashesWritten, optionalWritten, contentWritten, guardNumber, boundaryWritten, takerWritten, writeCall, Long, NumberFits, CountFits, NumbersFit, OptionFits, ContentFits, Fits}
 use Rattle.trace_format.specs.Traces.{startingWith, readCalls, readTrace}
-use Rattle.trace_format.proofs.Standing.{call-place}
+use Rattle.trace_format.proofs.Standing.{never, call-place}
 use Rattle.trace_laws.specs.Laws.{WrittenAgain}
 
 -- ---- readers
@@ -29,9 +29,6 @@ use Rattle.trace_laws.specs.Laws.{WrittenAgain}
 -- what is read behind these bytes is written as they and its own, and fits
 record Again (front : Bytes) (r : Bytes → ReadCall) : Type 0 where
   again : (bs : Bytes) (c : Call) (rest : Bytes) → Each IsByte bs → r bs ≡ got c rest → (writeCall c ++ rest ≡ front ++ bs) × Fits c
-
-never : {B : Type 0} → _≡_ {A = ℕ} 0 1 → B
-never e = absurd (omega arith)
 
 got-again : {front : Bytes} {c : Call} → writeCall c ≡ front → Fits c → Again front (got c)
 got-again {c = c} e f = record { again = λ bs d rest h is. let same : c ≡ d = cc in ((cc), subst Fits same f) }

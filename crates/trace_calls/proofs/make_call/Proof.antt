@@ -60,8 +60,10 @@ push-requires c κs = search needs
 returns-2 : tie.Need-returns-2
 unfolding byMark
 returns-2 c =
-    let is : eqBytes (take 2 ((c .before .before .before .before .before .before .before .before .before) .args .bytes .now)) markP ≡ true = sym ((c .before .before) .same-bytes .ensures) ∙ (c .before) .if2 .taken in
-    rw (mark-read ((c .before .before .before .before .before .before .before .before .before) .args .bytes .now) ((c .before .before .before .before .before) .if1 .left), is) (c .push .ensures _ _)
+    let bs = (c .before .before .before .before .before .before .before .before .before) .args .bytes .now in
+    let is : eqBytes (take 2 bs) markP ≡ true = sym ((c .before .before) .same-bytes .ensures) ∙ (c .before) .if2 .taken in
+    rw (mark-read bs ((c .before .before .before .before .before) .if1 .left), is)
+    (c .push .ensures _ _)
 
 slice-aggregate-same-bytes-2 : tie.Need-slice-aggregate-same-bytes-2
 slice-aggregate-same-bytes-2 c = search needs
@@ -78,8 +80,14 @@ same-length c = search needs
 returns-3 : tie.Need-returns-3
 unfolding byMark
 returns-3 c =
-    let is : eqBytes (take 2 ((c .before .before .before .before .before .before .before .before .before .before .before .before .before .before .before) .args .bytes .now)) markQ ≡ true = sym ((c .before .before .before .before .before) .same-bytes2 .ensures) ∙ (c .before .before .before .before) .if3 .taken in
-    rw (mark-read ((c .before .before .before .before .before .before .before .before .before .before .before .before .before .before .before) .args .bytes .now) ((c .before .before .before .before .before .before .before .before .before .before .before) .if1 .left), not-P (c .before .before .before .before .before .before .before), is) ((c .before .before) .make-poll .ensures _)
+    let bs = (c .before .before .before .before .before .before .before .before .before .before .before .before .before .before .before) .args .bytes .now in
+    let is : eqBytes (take 2 bs) markQ ≡ true = sym ((c .before .before .before .before .before) .same-bytes2 .ensures) ∙ (c .before .before .before .before) .if3 .taken in
+    rw (
+      mark-read bs ((c .before .before .before .before .before .before .before .before .before .before .before) .if1 .left),
+      not-P (c .before .before .before .before .before .before .before),
+      is,
+    )
+    ((c .before .before) .make-poll .ensures _)
 
 slice-aggregate-same-bytes-3 : tie.Need-slice-aggregate-same-bytes-3
 slice-aggregate-same-bytes-3 c = search needs
@@ -93,8 +101,15 @@ guard-requires c κs = search needs
 returns-4 : tie.Need-returns-4
 unfolding byMark
 returns-4 c =
-    let is : eqBytes (take 2 ((c .before .before .before .before .before .before .before .before .before .before .before .before .before .before .before) .args .bytes .now)) markG ≡ true = sym ((c .before .before) .same-bytes3 .ensures) ∙ (c .before) .if4 .taken in
-    rw (mark-read ((c .before .before .before .before .before .before .before .before .before .before .before .before .before .before .before) .args .bytes .now) ((c .before .before .before .before .before .before .before .before .before .before .before) .if1 .left), not-P (c .before .before .before .before .before .before .before), not-Q (c .before .before .before .before), is) (c .guard .ensures _ _)
+    let bs = (c .before .before .before .before .before .before .before .before .before .before .before .before .before .before .before) .args .bytes .now in
+    let is : eqBytes (take 2 bs) markG ≡ true = sym ((c .before .before) .same-bytes3 .ensures) ∙ (c .before) .if4 .taken in
+    rw (
+      mark-read bs ((c .before .before .before .before .before .before .before .before .before .before .before) .if1 .left),
+      not-P (c .before .before .before .before .before .before .before),
+      not-Q (c .before .before .before .before),
+      is,
+    )
+    (c .guard .ensures _ _)
 
 slice-aggregate-same-bytes-4 : tie.Need-slice-aggregate-same-bytes-4
 slice-aggregate-same-bytes-4 c = search needs
@@ -108,8 +123,16 @@ enter-requires c κs = search needs
 returns-5 : tie.Need-returns-5
 unfolding byMark
 returns-5 c =
-    let is : eqBytes (take 2 ((c .before .before .before .before .before .before .before .before .before .before .before .before .before .before .before .before .before .before) .args .bytes .now)) markE ≡ true = sym ((c .before .before) .same-bytes4 .ensures) ∙ (c .before) .if5 .taken in
-    rw (mark-read ((c .before .before .before .before .before .before .before .before .before .before .before .before .before .before .before .before .before .before) .args .bytes .now) ((c .before .before .before .before .before .before .before .before .before .before .before .before .before .before) .if1 .left), not-P (c .before .before .before .before .before .before .before .before .before .before), not-Q (c .before .before .before .before .before .before .before), not-G (c .before .before .before .before), is) (c .enter .ensures _ _)
+    let bs = (c .before .before .before .before .before .before .before .before .before .before .before .before .before .before .before .before .before .before) .args .bytes .now in
+    let is : eqBytes (take 2 bs) markE ≡ true = sym ((c .before .before) .same-bytes4 .ensures) ∙ (c .before) .if5 .taken in
+    rw (
+      mark-read bs ((c .before .before .before .before .before .before .before .before .before .before .before .before .before .before) .if1 .left),
+      not-P (c .before .before .before .before .before .before .before .before .before .before),
+      not-Q (c .before .before .before .before .before .before .before),
+      not-G (c .before .before .before .before),
+      is,
+    )
+    (c .enter .ensures _ _)
 
 slice-aggregate-same-bytes-5 : tie.Need-slice-aggregate-same-bytes-5
 slice-aggregate-same-bytes-5 c = search needs
@@ -126,8 +149,17 @@ same-length-2 c = search needs
 returns-6 : tie.Need-returns-6
 unfolding byMark
 returns-6 c =
-    let is : eqBytes (take 2 ((c .before .before .before .before .before .before .before .before .before .before .before .before .before .before .before .before .before .before .before .before .before .before .before .before) .args .bytes .now)) markR ≡ true = sym ((c .before .before .before .before .before) .same-bytes5 .ensures) ∙ (c .before .before .before .before) .if6 .taken in
-    rw (mark-read ((c .before .before .before .before .before .before .before .before .before .before .before .before .before .before .before .before .before .before .before .before .before .before .before .before) .args .bytes .now) ((c .before .before .before .before .before .before .before .before .before .before .before .before .before .before .before .before .before .before .before .before) .if1 .left), not-P (c .before .before .before .before .before .before .before .before .before .before .before .before .before .before .before .before), not-Q (c .before .before .before .before .before .before .before .before .before .before .before .before .before), not-G (c .before .before .before .before .before .before .before .before .before .before), not-E (c .before .before .before .before .before .before .before), is) ((c .before .before) .reorganise .ensures _)
+    let bs = (c .before .before .before .before .before .before .before .before .before .before .before .before .before .before .before .before .before .before .before .before .before .before .before .before) .args .bytes .now in
+    let is : eqBytes (take 2 bs) markR ≡ true = sym ((c .before .before .before .before .before) .same-bytes5 .ensures) ∙ (c .before .before .before .before) .if6 .taken in
+    rw (
+      mark-read bs ((c .before .before .before .before .before .before .before .before .before .before .before .before .before .before .before .before .before .before .before .before) .if1 .left),
+      not-P (c .before .before .before .before .before .before .before .before .before .before .before .before .before .before .before .before),
+      not-Q (c .before .before .before .before .before .before .before .before .before .before .before .before .before),
+      not-G (c .before .before .before .before .before .before .before .before .before .before),
+      not-E (c .before .before .before .before .before .before .before),
+      is,
+    )
+    ((c .before .before) .reorganise .ensures _)
 
 slice-aggregate-same-bytes-6 : tie.Need-slice-aggregate-same-bytes-6
 slice-aggregate-same-bytes-6 c = search needs
@@ -147,8 +179,18 @@ same-length-4 c = search needs
 returns-7 : tie.Need-returns-7
 unfolding byMark
 returns-7 c =
-    let is : eqBytes (take 2 ((c .before .before .before .before .before .before .before .before .before .before .before .before .before .before .before .before .before .before .before .before .before .before .before .before .before .before .before .before .before .before) .args .bytes .now)) markF ≡ true = sym ((c .before .before .before .before .before .before .before .before) .same-bytes6 .ensures) ∙ (c .before .before .before .before .before .before .before) .if7 .taken in
-    rw (mark-read ((c .before .before .before .before .before .before .before .before .before .before .before .before .before .before .before .before .before .before .before .before .before .before .before .before .before .before .before .before .before .before) .args .bytes .now) ((c .before .before .before .before .before .before .before .before .before .before .before .before .before .before .before .before .before .before .before .before .before .before .before .before .before .before) .if1 .left), not-P (c .before .before .before .before .before .before .before .before .before .before .before .before .before .before .before .before .before .before .before .before .before .before), not-Q (c .before .before .before .before .before .before .before .before .before .before .before .before .before .before .before .before .before .before .before), not-G (c .before .before .before .before .before .before .before .before .before .before .before .before .before .before .before .before), not-E (c .before .before .before .before .before .before .before .before .before .before .before .before .before), not-R (c .before .before .before .before .before .before .before .before .before .before), is) ((c .before .before .before .before) .finalise .ensures)
+    let bs = (c .before .before .before .before .before .before .before .before .before .before .before .before .before .before .before .before .before .before .before .before .before .before .before .before .before .before .before .before .before .before) .args .bytes .now in
+    let is : eqBytes (take 2 bs) markF ≡ true = sym ((c .before .before .before .before .before .before .before .before) .same-bytes6 .ensures) ∙ (c .before .before .before .before .before .before .before) .if7 .taken in
+    rw (
+      mark-read bs ((c .before .before .before .before .before .before .before .before .before .before .before .before .before .before .before .before .before .before .before .before .before .before .before .before .before .before) .if1 .left),
+      not-P (c .before .before .before .before .before .before .before .before .before .before .before .before .before .before .before .before .before .before .before .before .before .before),
+      not-Q (c .before .before .before .before .before .before .before .before .before .before .before .before .before .before .before .before .before .before .before),
+      not-G (c .before .before .before .before .before .before .before .before .before .before .before .before .before .before .before .before),
+      not-E (c .before .before .before .before .before .before .before .before .before .before .before .before .before),
+      not-R (c .before .before .before .before .before .before .before .before .before .before),
+      is,
+    )
+    ((c .before .before .before .before) .finalise .ensures)
 
 slice-aggregate-same-bytes-7 : tie.Need-slice-aggregate-same-bytes-7
 slice-aggregate-same-bytes-7 c = search needs
@@ -165,15 +207,38 @@ same-length-5 c = search needs
 returns-8 : tie.Need-returns-8
 unfolding byMark
 returns-8 c =
-    let is : eqBytes (take 2 ((c .before .before .before .before .before .before .before .before .before .before .before .before .before .before .before .before .before .before .before .before .before .before .before .before .before .before .before .before .before .before) .args .bytes .now)) markV ≡ true = sym ((c .before .before .before .before .before) .same-bytes7 .ensures) ∙ (c .before .before .before .before) .if8 .taken in
-    rw (mark-read ((c .before .before .before .before .before .before .before .before .before .before .before .before .before .before .before .before .before .before .before .before .before .before .before .before .before .before .before .before .before .before) .args .bytes .now) ((c .before .before .before .before .before .before .before .before .before .before .before .before .before .before .before .before .before .before .before .before .before .before .before .before .before .before) .if1 .left), not-P (c .before .before .before .before .before .before .before .before .before .before .before .before .before .before .before .before .before .before .before .before .before .before), not-Q (c .before .before .before .before .before .before .before .before .before .before .before .before .before .before .before .before .before .before .before), not-G (c .before .before .before .before .before .before .before .before .before .before .before .before .before .before .before .before), not-E (c .before .before .before .before .before .before .before .before .before .before .before .before .before), not-R (c .before .before .before .before .before .before .before .before .before .before), not-F (c .before .before .before .before .before .before .before), is) ((c .before .before) .evict .ensures _)
+    let bs = (c .before .before .before .before .before .before .before .before .before .before .before .before .before .before .before .before .before .before .before .before .before .before .before .before .before .before .before .before .before .before) .args .bytes .now in
+    let is : eqBytes (take 2 bs) markV ≡ true = sym ((c .before .before .before .before .before) .same-bytes7 .ensures) ∙ (c .before .before .before .before) .if8 .taken in
+    rw (
+      mark-read bs ((c .before .before .before .before .before .before .before .before .before .before .before .before .before .before .before .before .before .before .before .before .before .before .before .before .before .before) .if1 .left),
+      not-P (c .before .before .before .before .before .before .before .before .before .before .before .before .before .before .before .before .before .before .before .before .before .before),
+      not-Q (c .before .before .before .before .before .before .before .before .before .before .before .before .before .before .before .before .before .before .before),
+      not-G (c .before .before .before .before .before .before .before .before .before .before .before .before .before .before .before .before),
+      not-E (c .before .before .before .before .before .before .before .before .before .before .before .before .before),
+      not-R (c .before .before .before .before .before .before .before .before .before .before),
+      not-F (c .before .before .before .before .before .before .before),
+      is,
+    )
+    ((c .before .before) .evict .ensures _)
 
 no-call-requires-2 : tie.Need-no-call-requires-2
 no-call-requires-2 c κs = search needs
 
 returns-9 : tie.Need-returns-9
 unfolding byMark
-returns-9 c = not-made long ((c .before .before .before .before .before .before .before .before .before .before .before .before .before .before .before .before .before .before .before .before .before .before .before .before .before .before .before) .args .q) ((c .before .before .before .before .before .before .before .before .before .before .before .before .before .before .before .before .before .before .before .before .before .before .before .before .before .before .before) .args .bytes .now) _ _ _ _ (rw (mark-read ((c .before .before .before .before .before .before .before .before .before .before .before .before .before .before .before .before .before .before .before .before .before .before .before .before .before .before .before) .args .bytes .now) ((c .before .before .before .before .before .before .before .before .before .before .before .before .before .before .before .before .before .before .before .before .before .before .before) .if1 .left), not-P (c .before .before .before .before .before .before .before .before .before .before .before .before .before .before .before .before .before .before .before), not-Q (c .before .before .before .before .before .before .before .before .before .before .before .before .before .before .before .before), not-G (c .before .before .before .before .before .before .before .before .before .before .before .before .before), not-E (c .before .before .before .before .before .before .before .before .before .before), not-R (c .before .before .before .before .before .before .before), not-F (c .before .before .before .before), not-V (c .before)) tt) (c .no-call2 .ensures)
+returns-9 c =
+    let bs = (c .before .before .before .before .before .before .before .before .before .before .before .before .before .before .before .before .before .before .before .before .before .before .before .before .before .before .before) .args .bytes .now in
+    not-made long ((c .before .before .before .before .before .before .before .before .before .before .before .before .before .before .before .before .before .before .before .before .before .before .before .before .before .before .before) .args .q) bs _ _ _ _
+    (rw (
+      mark-read bs ((c .before .before .before .before .before .before .before .before .before .before .before .before .before .before .before .before .before .before .before .before .before .before .before) .if1 .left),
+      not-P (c .before .before .before .before .before .before .before .before .before .before .before .before .before .before .before .before .before .before .before),
+      not-Q (c .before .before .before .before .before .before .before .before .before .before .before .before .before .before .before .before),
+      not-G (c .before .before .before .before .before .before .before .before .before .before .before .before .before),
+      not-E (c .before .before .before .before .before .before .before .before .before .before),
+      not-R (c .before .before .before .before .before .before .before),
+      not-F (c .before .before .before .before),
+      not-V (c .before),
+    ) tt) (c .no-call2 .ensures)
 
 pub make-call-spec : {M : Type 1} → statement M
 make-call-spec =

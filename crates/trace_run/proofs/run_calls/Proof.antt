@@ -6,6 +6,7 @@ use borrow.Author.Needs.{needs}
 use Rattle.gap_quarantine.specs.Contracts.{viewOf}
 use Rattle.trace_format.specs.Reading.{readCall}
 use Rattle.trace_calls.specs.Contracts.{endOf}
+use Rattle.lists.specs.Bytes.{Bytes}
 use Rattle.lists.proofs.Parts.{part-rest}
 use Rattle.trace_run.proofs.Running.{LeadsTo, leads-to, one-more, Going, begins, ran, done, stops-at, goes-on}
 use Rattle.trace_run.proofs.run_calls.Statement.{statement}
@@ -18,13 +19,19 @@ Inv-loop trace lines₀ numbers₀ hashes₀ q₀ count₀ at₀ lines numbers h
 abbrev μ-loop : tie.MeasureT-loop
 μ-loop trace lines₀ numbers₀ hashes₀ q₀ count₀ at₀ lines numbers hashes q count at = length trace - at
 
+-- what is left of the trace
+abbrev rest : (c : tie.At-loop Inv-loop μ-loop) → Bytes
+rest c = drop (c .loop .at) ((c .before .before .before .before) .args .trace .now)
+
 -- what the call of this turn leads to
 turn : (c : tie.After-number-of Inv-loop μ-loop) →
-    ((c .before .before .before .before) .make-call .result .size ≡ endOf (drop ((c .before .before .before .before .before .before .before .before .before) .loop .at) ((c .before .before .before .before .before .before .before .before .before .before .before .before .before) .args .trace .now)) (readCall (drop ((c .before .before .before .before .before .before .before .before .before) .loop .at) ((c .before .before .before .before .before .before .before .before .before .before .before .before .before) .args .trace .now)))) × LeadsTo (viewOf ((c .before .before .before .before .before .before .before .before .before) .loop .q)) (readCall (drop ((c .before .before .before .before .before .before .before .before .before) .loop .at) ((c .before .before .before .before .before .before .before .before .before .before .before .before .before) .args .trace .now))) (c .number-of .result) (viewOf ((c .before .before .before .before) .make-call .result .store))
+    ((c .before .before .before .before) .make-call .result .size ≡ endOf (rest (c .before .before .before .before .before .before .before .before .before)) (readCall (rest (c .before .before .before .before .before .before .before .before .before))))
+    × LeadsTo (viewOf ((c .before .before .before .before .before .before .before .before .before) .loop .q)) (readCall (rest (c .before .before .before .before .before .before .before .before .before))) (c .number-of .result) (viewOf ((c .before .before .before .before) .make-call .result .store))
 turn c =
-    let m = rw (part-rest ((c .before .before .before .before .before .before .before .before .before .before .before .before .before) .args .trace .now) ((c .before .before .before .before .before .before .before .before .before) .loop .at)) at ((c .before .before .before .before) .make-call .ensures) in
-    let l = leads-to ((c .before .before .before .before .before .before .before .before .before) .loop .q) (drop ((c .before .before .before .before .before .before .before .before .before) .loop .at) ((c .before .before .before .before .before .before .before .before .before .before .before .before .before) .args .trace .now)) (readCall (drop ((c .before .before .before .before .before .before .before .before .before) .loop .at) ((c .before .before .before .before .before .before .before .before .before .before .before .before .before) .args .trace .now))) _ _ ((c .before .before .before .before) .make-call .result) _ _ ((c .before .before .before .before .before .before .before .before .before) .loop .inv .1) ((c .before .before .before .before .before .before .before .before .before) .loop .inv .2) m in
-    (m .size, rw (← c .number-of .ensures) at l)
+    let l = (c .before .before .before .before .before .before .before .before .before) .loop in
+    let made = (c .before .before .before .before) .make-call in
+    let m = rw (part-rest ((c .before .before .before .before .before .before .before .before .before .before .before .before .before) .args .trace .now) (l .at)) at (made .ensures) in
+    (m .size, rw (← c .number-of .ensures) at (leads-to (l .q) (rest (c .before .before .before .before .before .before .before .before .before)) (readCall (rest (c .before .before .before .before .before .before .before .before .before))) _ _ (made .result) _ _ (l .inv .1) (l .inv .2) m))
 
 -- there is room for its line
 room : (c : tie.In-loop Inv-loop μ-loop) → (c .before) .loop .count < length ((c .before) .loop .lines)

@@ -84,10 +84,17 @@ answered-requires c κs = search needs
 
 returns-3 : tie.Need-returns-3
 returns-3 c =
-    let bs = (c .before .before .before .before .before .before .before .before .before .before .before .before .before .before .before .before) .args .bytes .now in
+    let a = (c .before .before .before .before .before .before .before .before .before .before .before .before .before .before .before .before) .args in
+    let bs = a .bytes .now in
+    let mid = (c .before .before .before .before .before .before .before .before .before .before .before .before .before .before) .list-end .result in
+    let end = (c .before .before .before .before .before .before .before .before .before .before .before .before) .list-end2 .result in
+    let recorded = (c .before) .record-unhydratable-guard-with-content in
     let l = ends (c .before .before .before .before .before .before .before .before .before .before .before) in
-    let e : ((c .before .before .before .before .before .before .before .before .before .before .before .before) .list-end2 .result) - (((c .before .before .before .before .before .before .before .before .before .before .before .before .before .before) .list-end .result) + 2) ≡ 1 * countAt ((c .before .before .before .before .before .before .before .before .before .before .before .before .before .before) .list-end .result) bs = omega arith in
-    λ slice hashes. made-alone long ((c .before .before .before .before .before .before .before .before .before .before .before .before .before .before .before .before) .args .q) bs _ _ ((c .before .before .before .before .before .before .before .before .before .before .before .before) .list-end2 .result) ((c .before) .record-unhydratable-guard-with-content .result) _ ((rw ((c .before .before .before .before) .if3 .taken) at (guard-read bs (omega arith))) ∙ guard-unhydratable bs _ _ (l .first) (l .second) (l .within)) (l .within) (c .answered .ensures) tt tt slice hashes (guard-as-read ((c .before .before .before .before .before .before .before .before .before .before .before .before .before .before .before .before) .args .q) _ _ _ _ _ _ _ ((c .before) .record-unhydratable-guard-with-content .result) ((c .before .before .before .before .before .before .before .before .before .before) .hash-at .ensures) (kept-front 35 bs _ _ _ ((c .before .before .before .before .before .before .before .before) .put-numbers .ensures)) (ap (λ (n : ℕ). take n (drop (((c .before .before .before .before .before .before .before .before .before .before .before .before .before .before) .list-end .result) + 2) bs)) e) ((c .before) .record-unhydratable-guard-with-content .ensures))
+    let e : end - (mid + 2) ≡ 1 * countAt mid bs = omega arith in
+    λ slice hashes. made-alone long (a .q) bs _ _ end (recorded .result) _
+    ((rw ((c .before .before .before .before) .if3 .taken) at (guard-read bs (omega arith))) ∙ guard-unhydratable bs _ _ (l .first) (l .second) (l .within)) (l .within) (c .answered .ensures) tt tt slice hashes
+    (guard-as-read (a .q) _ _ _ _ _ _ _ (recorded .result) ((c .before .before .before .before .before .before .before .before .before .before) .hash-at .ensures) (kept-front 35 bs _ _ _ ((c .before .before .before .before .before .before .before .before) .put-numbers .ensures))
+    (ap (λ (n : ℕ). take n (drop (mid + 2) bs)) e) (recorded .ensures))
 
 shared-slice-read-if4 : tie.Need-shared-slice-read-if4
 shared-slice-read-if4 c = omega (arith, ends (c .before .before .before .before .before .before .before .before))
@@ -136,11 +143,18 @@ answered-requires-2 c κs = search needs
 
 returns-6 : tie.Need-returns-6
 returns-6 c =
-    let bs = (c .before .before .before .before .before .before .before .before .before .before .before .before .before .before .before .before .before .before .before .before) .args .bytes .now in
+    let a = (c .before .before .before .before .before .before .before .before .before .before .before .before .before .before .before .before .before .before .before .before) .args in
+    let bs = a .bytes .now in
+    let mid = (c .before .before .before .before .before .before .before .before .before .before .before .before .before .before .before .before .before .before) .list-end .result in
+    let end = (c .before .before .before .before .before .before .before .before .before .before .before .before .before .before .before .before) .list-end2 .result in
+    let recorded = (c .before) .record-repark-guard-with-content in
     let l = ends (c .before .before .before .before .before .before .before .before .before .before .before .before .before .before .before) in
-    let h : ((c .before .before .before .before .before .before .before .before .before .before .before .before .before .before .before .before) .list-end2 .result) + 8 ≤ length bs = omega (arith, (c .before .before .before .before .before) .if5 .left) in
-    let e : ((c .before .before .before .before .before .before .before .before .before .before .before .before .before .before .before .before) .list-end2 .result) - (((c .before .before .before .before .before .before .before .before .before .before .before .before .before .before .before .before .before .before) .list-end .result) + 2) ≡ 1 * countAt ((c .before .before .before .before .before .before .before .before .before .before .before .before .before .before .before .before .before .before) .list-end .result) bs = omega (arith, l) in
-    λ slice hashes. made-alone long ((c .before .before .before .before .before .before .before .before .before .before .before .before .before .before .before .before .before .before .before .before) .args .q) bs _ _ (((c .before .before .before .before .before .before .before .before .before .before .before .before .before .before .before .before) .list-end2 .result) + 8) ((c .before) .record-repark-guard-with-content .result) _ ((rw ((c .before .before .before .before .before .before) .if4 .left) at (guard-read bs (omega (arith, l)))) ∙ guard-reparked bs _ _ (l .first) (l .second) h) h (c .answered2 .ensures) tt tt slice hashes (guard-as-read ((c .before .before .before .before .before .before .before .before .before .before .before .before .before .before .before .before .before .before .before .before) .args .q) _ _ _ _ _ _ _ ((c .before) .record-repark-guard-with-content .result) ((c .before .before .before .before .before .before .before .before .before .before .before .before .before .before) .hash-at .ensures) (kept-front 35 bs _ _ _ ((c .before .before .before .before .before .before .before .before .before .before .before .before) .put-numbers .ensures)) (ap (λ (n : ℕ). take n (drop (((c .before .before .before .before .before .before .before .before .before .before .before .before .before .before .before .before .before .before) .list-end .result) + 2) bs)) e) (rw ((c .before .before .before .before) .number .ensures) at ((c .before) .record-repark-guard-with-content .ensures)))
+    let h : end + 8 ≤ length bs = omega (arith, (c .before .before .before .before .before) .if5 .left) in
+    let e : end - (mid + 2) ≡ 1 * countAt mid bs = omega (arith, l) in
+    λ slice hashes. made-alone long (a .q) bs _ _ (end + 8) (recorded .result) _
+    ((rw ((c .before .before .before .before .before .before) .if4 .left) at (guard-read bs (omega (arith, l)))) ∙ guard-reparked bs _ _ (l .first) (l .second) h) h (c .answered2 .ensures) tt tt slice hashes
+    (guard-as-read (a .q) _ _ _ _ _ _ _ (recorded .result) ((c .before .before .before .before .before .before .before .before .before .before .before .before .before .before) .hash-at .ensures) (kept-front 35 bs _ _ _ ((c .before .before .before .before .before .before .before .before .before .before .before .before) .put-numbers .ensures))
+    (ap (λ (n : ℕ). take n (drop (mid + 2) bs)) e) (rw ((c .before .before .before .before) .number .ensures) at (recorded .ensures)))
 
 pub guard-spec : {M : Type 1} → statement M
 guard-spec =

@@ -68,7 +68,9 @@ returns-3 : tie.Need-returns-3
 unfolding byFlag
 returns-3 c =
     let bs = (c .before .before .before .before .before .before .before .before .before .before .before .before .before .before .before .before) .args .bytes .now in
-    λ hashes. rw (poll-read bs ((c .before .before .before .before .before .before .before .before .before .before .before .before .before) .list-end .result) (ends (c .before .before .before .before .before .before .before .before .before .before .before .before) .0) ((c .before .before .before .before .before .before .before .before .before .before .before) .if2 .left), (c .before .before .before .before .before .before) .if3 .taken) ((c .before .before) .poll-content-at .ensures (numbersAt 30 bs) hashes (kept-front 30 bs _ _ _ ((c .before .before .before .before .before .before .before .before .before) .put-numbers .ensures)))
+    let end = (c .before .before .before .before .before .before .before .before .before .before .before .before .before) .list-end .result in
+    λ hashes. rw (poll-read bs end (ends (c .before .before .before .before .before .before .before .before .before .before .before .before) .0) ((c .before .before .before .before .before .before .before .before .before .before .before) .if2 .left), (c .before .before .before .before .before .before) .if3 .taken)
+    ((c .before .before) .poll-content-at .ensures (numbersAt 30 bs) hashes (kept-front 30 bs _ _ _ ((c .before .before .before .before .before .before .before .before .before) .put-numbers .ensures)))
 
 shared-slice-read-if4 : tie.Need-shared-slice-read-if4
 shared-slice-read-if4 c = search needs
@@ -78,8 +80,11 @@ no-call-requires-3 c κs = search needs
 
 returns-4 : tie.Need-returns-4
 returns-4 c =
-    let bs = (c .before .before .before .before .before .before .before .before .before .before .before .before .before) .args .bytes .now in
-    λ hashes. not-made (formOf ((c .before .before .before .before .before .before .before .before .before .before .before .before .before) .args .form)) ((c .before .before .before .before .before .before .before .before .before .before .before .before .before) .args .q) bs _ _ hashes _ (rw (poll-read bs ((c .before .before .before .before .before .before .before .before .before .before) .list-end .result) (ends (c .before .before .before .before .before .before .before .before .before) .0) ((c .before .before .before .before .before .before .before .before) .if2 .left)) (flag-bad (getD bs ((c .before .before .before .before .before .before .before .before .before .before) .list-end .result) 0) _ _ ((c .before) .if4 .taken) ((c .before .before .before) .if3 .left))) (c .no-call3 .ensures)
+    let a = (c .before .before .before .before .before .before .before .before .before .before .before .before .before) .args in
+    let bs = a .bytes .now in
+    let end = (c .before .before .before .before .before .before .before .before .before .before) .list-end .result in
+    λ hashes. not-made (formOf (a .form)) (a .q) bs _ _ hashes _
+    (rw (poll-read bs end (ends (c .before .before .before .before .before .before .before .before .before) .0) ((c .before .before .before .before .before .before .before .before) .if2 .left)) (flag-bad (getD bs end 0) _ _ ((c .before) .if4 .taken) ((c .before .before .before) .if3 .left))) (c .no-call3 .ensures)
 
 address-at-requires : tie.Need-address-at-requires
 address-at-requires c κs = omega (arith, ends (c .before .before .before .before .before .before .before .before))
@@ -111,9 +116,15 @@ same-length-2 c = search needs
 returns-5 : tie.Need-returns-5
 unfolding byFlag
 returns-5 c =
-    let bs = (c .before .before .before .before .before .before .before .before .before .before .before .before .before .before .before .before .before .before .before .before .before) .args .bytes .now in
+    let a = (c .before .before .before .before .before .before .before .before .before .before .before .before .before .before .before .before .before .before .before .before .before) .args in
+    let bs = a .bytes .now in
+    let end = (c .before .before .before .before .before .before .before .before .before .before .before .before .before .before .before .before .before .before) .list-end .result in
+    let polled = (c .before .before .before) .poll-alone in
     let h = (c .before .before .before .before .before .before .before .before .before .before .before .before .before .before .before .before) .if2 .left in
-    λ hashes. made-numbers (formOf ((c .before .before .before .before .before .before .before .before .before .before .before .before .before .before .before .before .before .before .before .before .before) .args .form)) ((c .before .before .before .before .before .before .before .before .before .before .before .before .before .before .before .before .before .before .before .before .before) .args .q) bs _ _ _ ((c .before .before .before) .poll-alone .result) _ (rw ((c .before .before .before .before .before .before .before .before .before) .if4 .left) at (poll-read bs ((c .before .before .before .before .before .before .before .before .before .before .before .before .before .before .before .before .before .before) .list-end .result) (ends (c .before .before .before .before .before .before .before .before .before .before .before .before .before .before .before .before .before) .0) h)) (omega arith) (c .answered .ensures) tt tt _ _ hashes (poll-as-read (formOf ((c .before .before .before .before .before .before .before .before .before .before .before .before .before .before .before .before .before .before .before .before .before) .args .form)) ((c .before .before .before .before .before .before .before .before .before .before .before .before .before .before .before .before .before .before .before .before .before) .args .q) _ _ _ _ _ _ _ _ ((c .before .before .before) .poll-alone .result) ((c .before .before .before .before .before .before .before .before) .address-at .ensures) ((c .before .before .before .before .before .before .before) .number .ensures) (kept-front 30 bs _ _ _ ((c .before .before .before .before .before .before .before .before .before .before .before .before .before .before) .put-numbers .ensures)) ((c .before .before .before) .poll-alone .ensures))
+    λ hashes. made-numbers (formOf (a .form)) (a .q) bs _ _ _ (polled .result) _
+    (rw ((c .before .before .before .before .before .before .before .before .before) .if4 .left) at (poll-read bs end (ends (c .before .before .before .before .before .before .before .before .before .before .before .before .before .before .before .before .before) .0) h)) (omega arith) (c .answered .ensures) tt tt _ _ hashes
+    (poll-as-read (formOf (a .form)) (a .q) _ _ _ _ _ _ _ _ (polled .result) ((c .before .before .before .before .before .before .before .before) .address-at .ensures) ((c .before .before .before .before .before .before .before) .number .ensures)
+    (kept-front 30 bs _ _ _ ((c .before .before .before .before .before .before .before .before .before .before .before .before .before .before) .put-numbers .ensures)) (polled .ensures))
 
 pub make-poll-spec : {M : Type 1} → statement M
 make-poll-spec =

@@ -88,10 +88,17 @@ same-length c = search needs
 
 returns-3 : tie.Need-returns-3
 returns-3 c =
-    let bs = (c .before .before .before .before .before .before .before .before .before .before .before .before .before .before .before .before .before .before .before .before) .args .bytes .now in
+    let a = (c .before .before .before .before .before .before .before .before .before .before .before .before .before .before .before .before .before .before .before .before) .args in
+    let bs = a .bytes .now in
+    let mid = (c .before .before .before .before .before .before .before .before .before .before .before .before .before .before .before .before) .list-end .result in
+    let end = (c .before .before .before .before .before .before .before .before .before .before .before .before .before .before) .list-end2 .result in
+    let polled = (c .before .before .before) .poll-with-content in
     let l = ends (c .before .before .before .before .before .before .before .before .before .before .before .before .before) in
-    let e : ((c .before .before .before .before .before .before .before .before .before .before .before .before .before .before) .list-end2 .result) - (((c .before .before .before .before .before .before .before .before .before .before .before .before .before .before .before .before) .list-end .result) + 2) ≡ 1 * countAt ((c .before .before .before .before .before .before .before .before .before .before .before .before .before .before .before .before) .list-end .result) bs = omega arith in
-    λ list hashes k. made-numbers (formOf ((c .before .before .before .before .before .before .before .before .before .before .before .before .before .before .before .before .before .before .before .before) .args .form)) ((c .before .before .before .before .before .before .before .before .before .before .before .before .before .before .before .before .before .before .before .before) .args .q) bs _ _ ((c .before .before .before .before .before .before .before .before .before .before .before .before .before .before) .list-end2 .result) ((c .before .before .before) .poll-with-content .result) _ (content-in bs ((c .before .before .before .before .before .before .before .before .before .before .before .before .before .before .before .before .before .before .before .before) .args .at) _ _ _ (l .first) (l .second) (l .within)) (l .within) (c .answered .ensures) tt tt _ _ hashes (content-as-read (formOf ((c .before .before .before .before .before .before .before .before .before .before .before .before .before .before .before .before .before .before .before .before) .args .form)) ((c .before .before .before .before .before .before .before .before .before .before .before .before .before .before .before .before .before .before .before .before) .args .q) _ _ _ _ list _ _ _ ((c .before .before .before) .poll-with-content .result) ((c .before .before .before .before .before .before .before .before .before) .address-at .ensures) ((c .before .before .before .before .before .before .before .before) .number .ensures) k _ _ _ _ (kept-front ((c .before .before .before .before .before .before .before .before .before .before .before .before .before .before .before .before .before .before .before .before) .args .at) bs _ _ _ ((c .before .before .before .before .before .before .before .before .before .before .before) .put-numbers .ensures)) (ap (λ (n : ℕ). take n (drop (((c .before .before .before .before .before .before .before .before .before .before .before .before .before .before .before .before) .list-end .result) + 2) bs)) e) ((c .before .before .before) .poll-with-content .ensures))
+    let e : end - (mid + 2) ≡ 1 * countAt mid bs = omega arith in
+    λ list hashes k. made-numbers (formOf (a .form)) (a .q) bs _ _ end (polled .result) _
+    (content-in bs (a .at) _ _ _ (l .first) (l .second) (l .within)) (l .within) (c .answered .ensures) tt tt _ _ hashes
+    (content-as-read (formOf (a .form)) (a .q) _ _ _ _ list _ _ _ (polled .result) ((c .before .before .before .before .before .before .before .before .before) .address-at .ensures) ((c .before .before .before .before .before .before .before .before) .number .ensures) k _ _ _ _
+    (kept-front (a .at) bs _ _ _ ((c .before .before .before .before .before .before .before .before .before .before .before) .put-numbers .ensures)) (ap (λ (n : ℕ). take n (drop (mid + 2) bs)) e) (polled .ensures))
 
 pub poll-content-at-spec : {M : Type 1} → statement M
 poll-content-at-spec =

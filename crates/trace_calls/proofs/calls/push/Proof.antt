@@ -40,8 +40,13 @@ answered-requires c κs = search needs
 
 returns-2 : tie.Need-returns-2
 returns-2 c =
-    let bs = (c .before .before .before .before .before .before .before .before .before .before .before) .args .bytes .now in
-    λ slice hashes. made-alone long ((c .before .before .before .before .before .before .before .before .before .before .before) .args .q) bs _ _ 94 ((c .before) .push .result) _ (push-read bs ((c .before .before .before .before .before .before .before .before .before) .if1 .left)) ((c .before .before .before .before .before .before .before .before .before) .if1 .left) (c .answered .ensures) tt tt slice hashes (rw ((c .before .before .before .before .before .before .before .before) .hash-at .ensures, (c .before .before .before .before .before .before .before) .address-at .ensures, (c .before .before .before .before .before .before) .number .ensures, (c .before .before .before .before .before) .number2 .ensures, (c .before .before .before .before) .number3 .ensures, (c .before .before .before) .number4 .ensures, (c .before .before) .number5 .ensures) at ((c .before) .push .ensures))
+    let a = (c .before .before .before .before .before .before .before .before .before .before .before) .args in
+    let bs = a .bytes .now in
+    let h = (c .before .before .before .before .before .before .before .before .before) .if1 .left in
+    let pushed = (c .before) .push in
+    λ slice hashes. made-alone long (a .q) bs _ _ 94 (pushed .result) _ (push-read bs h) h (c .answered .ensures) tt tt slice hashes
+    (rw ((c .before .before .before .before .before .before .before .before) .hash-at .ensures, (c .before .before .before .before .before .before .before) .address-at .ensures, (c .before .before .before .before .before .before) .number .ensures, (c .before .before .before .before .before) .number2 .ensures, (c .before .before .before .before) .number3 .ensures, (c .before .before .before) .number4 .ensures, (c .before .before) .number5 .ensures)
+    at (pushed .ensures))
 
 pub push-spec : {M : Type 1} → statement M
 push-spec =
