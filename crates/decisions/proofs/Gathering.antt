@@ -2,13 +2,14 @@
 use Prim.Native.Nat.{ℕ, zero, suc, _+_, _-_, _≤_, _<_}
 use native.Mathlib.Nat.{add-zero, add-suc, suc-add}
 use native.Mathlib.Omega.{arith}
-use mathlib.Core.Path.{_≡_, refl, ap, _∙_}
-use mathlib.Core.Bool.{Bool, true, false, not, cond}
+use mathlib.Core.Path.{_≡_, ap, _∙_}
+use mathlib.Core.Bool.{Bool, true, false, not}
 use mathlib.Core.List.{List, [], _∷_, _++_, append-nil}
 use lib.Dec.{leb}
 use borrow.Author.Tests.{le-leb, lt-leb}
 use Rattle.lists.specs.Lists.{keep, isEmpty, isIn, numbersFrom}
 use Rattle.lists.proofs.Counting.{numbers-on}
+use Rattle.lists.proofs.Keeping.{keep-append}
 
 -- ---- numbers, from the front
 
@@ -18,15 +19,6 @@ numbers-more n zero = rw (add-zero)
 numbers-more n (suc i) = rw (suc-add) (ap {B = List ℕ} (λ r. n ∷ r) (numbers-more (suc n) i ∙ rw (suc-add, add-suc)))
 
 module _ (p : ℕ → Bool) where
-  keep-append : (a b : List ℕ) → keep p (a ++ b) ≡ keep p a ++ keep p b
-  unfolding keep
-  keep-append [] b = refl
-  keep-append (x ∷ xs) b = by-test (p x) (keep-append xs b)
-    where
-      by-test : (t : Bool) → keep p (xs ++ b) ≡ keep p xs ++ keep p b → cond t (x ∷ keep p (xs ++ b)) (keep p (xs ++ b)) ≡ cond t (x ∷ keep p xs) (keep p xs) ++ keep p b
-      by-test true h = ap {B = List ℕ} (λ r. x ∷ r) h
-      by-test false h = h
-
   -- one more that passes the test, or does not
   pub keep-hit : (l : List ℕ) (x : ℕ) → p x ≡ true → keep p (l ++ (x ∷ [])) ≡ keep p l ++ (x ∷ [])
   unfolding keep

@@ -36,6 +36,15 @@ module _ {A : Type 0} where
   unfolding keep
   keep-cong p x xs ys h = ap (λ (l : List A). cond (p x) (x ∷ l) l) h
 
+  pub keep-append : (p : A → Bool) (xs ys : List A) → keep p (xs ++ ys) ≡ keep p xs ++ keep p ys
+  unfolding keep
+  keep-append p [] ys = refl
+  keep-append p (x ∷ xs) ys = rw (keep-append p xs ys) (go (p x) (keep p xs) (keep p ys))
+    where
+      go : (b : Bool) (ks ls : List A) → cond b (x ∷ (ks ++ ls)) (ks ++ ls) ≡ cond b (x ∷ ks) ks ++ ls
+      go true ks ls = refl
+      go false ks ls = refl
+
   -- where every element passes, all are kept
   pub keep-each : (p : A → Bool) (xs : List A) → Each (λ x. p x ≡ true) xs → keep p xs ≡ xs
   unfolding keep

@@ -1,13 +1,13 @@
 -- Laws of a loop that writes a list to the front of a slice, so many numbers for each element.
 use Prim.Native.Nat.{ℕ, _+_, _*_, _-_, _≤_, _<_}
-use native.Mathlib.Nat.{mul-suc, mul-le-mul-left}
+use native.Mathlib.Nat.{mul-zero, mul-suc, mul-le-mul-left}
 use native.Mathlib.Numerals.{add-one}
 use native.Mathlib.Omega.{arith}
 use mathlib.Core.Path.{_≡_, refl, sym, ap, _∙_}
 use mathlib.Core.List.{List, [], _∷_, _++_, append-assoc, append-nil, map}
 use lib.ListN.{length, take, drop, getD, set, length-take, length-append, length-drop}
 use lib.Seq.{take-suc, take-at, drop-at, drop-drop, set-split}
-use Rattle.lists.specs.Lists.{collect, written, writtenAt}
+use Rattle.lists.specs.Lists.{Each, collect, written, writtenAt}
 
 -- ---- a list written from a place on
 
@@ -57,6 +57,12 @@ pub collect-append : {A : Type 0} (f : A → List ℕ) (a b : List A) → collec
 unfolding collect
 collect-append f [] b = refl
 collect-append f (x ∷ xs) b = rw (collect-append f xs b) (sym (append-assoc (f x) (collect f xs) (collect f b)))
+
+-- each element comes to so many numbers
+pub collect-length : {A : Type 0} (f : A → List ℕ) (size : ℕ) (l : List A) → Each (λ x. length (f x) ≡ size) l → length (collect f l) ≡ size * length l
+unfolding collect
+collect-length f size [] h = sym (mul-zero size)
+collect-length f size (x ∷ l) h = rw length-append (omega (arith, h .0, collect-length f size l (h .1), mul-suc size (length l)))
 
 module _ {X A : Type 0} (item : X → A) (f : A → List ℕ) (size : ℕ) where
   -- what is written after `i` of `n` elements

@@ -21,6 +21,7 @@ use Rattle.store_rules.specs.Store.{Store, Sorted, empty, Call, poll, long, row
 use Rattle.store_rules.specs.Answers.{numbersOf}
 use Rattle.store_rules.specs.Sweeps.{Sweep, pollsFrom, pollsOf, lent, inTurn, pollsIn, badLists, badSum, bigCount, sweepInputRefusal, listedEntries, sweepRoomRefusal, sweepRefusal, sweepEffect, sweepStep, Item, single, sweep, stepItem, runItems}
 use Rattle.store_rules.proofs.PollRows.{few-rows, poll-length}
+use Rattle.store_rules.proofs.Runs.{single-run}
 use Rattle.order_rule.specs.Orders.{pushesOf, shown, transcript, aboutRoom, EnoughRoom, unrefused, callsOf, callsRead, requestsOf, transcriptRead, RoomFor, OrderRuleFrom, OrderRule, PlainIsSpecial}
 use Rattle.order_rule.proofs.Ideal.{Ideal, view, effectᵢ, trailed, seen, effect-view, room-shown}
 use Rattle.order_rule.proofs.Invariant.{Thinner, thinner-length, thinner-of, trail-thinner}
@@ -219,11 +220,6 @@ single-calls : (qs : List Request) → callsRead (map single qs) ≡ calls qs
 unfolding callsRead callsOf collect calls
 single-calls [] = refl
 single-calls (q ∷ qs) = ap (λ (l : List Call). q .call ∷ l) (single-calls qs)
-
-single-run : (s : Store) (qs : List Request) → runItems s (map single qs) ≡ run s qs
-unfolding runItems stepItem run
-single-run s [] = refl
-single-run s (q ∷ qs) = single-run (step s q .0) qs
 
 single-transcript : (s : Store) (qs : List Request) → transcriptRead s (map single qs) ≡ transcript s qs
 unfolding transcriptRead requestsOf stepItem transcript

@@ -5,3 +5,4 @@ pub mod Placing
 pub mod Listings
 pub mod Lookups
 pub mod ShortRows
+pub mod Totals

@@ -31,7 +31,7 @@ record Entries (es : List Entry) : Type 0 where
   entries : length es ≤ 64
   narrow : Narrow es
 
-insert-length : (e : Entry) (es : List Entry) → length (insert e es) ≡ suc (length es)
+pub insert-length : (e : Entry) (es : List Entry) → length (insert e es) ≡ suc (length es)
 unfolding insert
 insert-length e [] = refl
 insert-length e (f ∷ fs) = go (leBytes (f .frame .from) (e .frame .from)) (insert-length e fs)

@@ -3,3 +3,4 @@ pub mod Reachable
 pub mod Listings
 pub mod Lookups
 pub mod ShortRows
+pub mod Totals

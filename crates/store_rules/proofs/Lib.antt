@@ -6,6 +6,7 @@ pub mod Matches
 pub mod PollCases
 pub mod PollRows
 pub mod RowForms
+pub mod Runs
 pub mod Searches
 pub mod Seen
 pub mod Walking

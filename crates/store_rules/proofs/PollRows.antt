@@ -1,8 +1,7 @@
 -- The rows that a poll lists: which nonces each has, how many there are, and how many numbers they take.
 use Prim.Native.Nat.{ℕ, _+_, _*_, _≤_}
-use native.Mathlib.Nat.{mul-suc, mul-zero}
 use native.Mathlib.Omega.{arith}
-use mathlib.Core.Path.{_≡_, refl, sym}
+use mathlib.Core.Path.{_≡_, refl}
 use mathlib.Core.Bool.{Bool, true, false, cond}
 use mathlib.Core.List.{List, [], _∷_, _++_}
 use mathlib.Core.Option.{Option, none, some}
@@ -10,6 +9,8 @@ use lib.ListN.{length, length-append}
 use Rattle.lists.specs.Bytes.{Bytes, eqBytes}
 use Rattle.lists.specs.Lists.{keep, collect, Each}
 use Rattle.lists.proofs.Elements.{each-join}
+use Rattle.lists.proofs.Keeping.{each-map}
+use Rattle.lists.proofs.Writing.{collect-length}
 use Rattle.store_rules.specs.Frames.{Entry, Guard, nonceConsumed, Row, Visit}
 use Rattle.store_rules.specs.Poll.{Content, predecessors, guardMatches, stay, leave, row, pollRule}
 use Rattle.store_rules.specs.Rules.{onlyOf}
@@ -104,11 +105,9 @@ few-rows sender head known content (e ∷ es) gs = go (eqBytes (e .frame .from) 
 
 -- ---- the numbers of rows
 
-rows-length : (form : RowForm) (l : List Row) → Each Narrow l → length (collect (rowNumbers form) l) ≡ rowWidth form * length l
-unfolding collect
-rows-length form [] h = sym (mul-zero (rowWidth form))
-rows-length form (r ∷ l) h =
-    rw length-append (omega (arith, row-length form r (gap-few (r .frame) (r .nonces) (h .0 .ascending)), rows-length form l (h .1), mul-suc (rowWidth form) (length l)))
+pub rows-length : (form : RowForm) (l : List Row) → Each Narrow l → length (collect (rowNumbers form) l) ≡ rowWidth form * length l
+rows-length form l h =
+    collect-length (rowNumbers form) (rowWidth form) l (each-map Narrow _ l (λ r n. row-length form r (gap-few (r .frame) (r .nonces) (n .ascending))) h)
 
 module _ (s : Store) (form : RowForm) (sender : Bytes) (head : ℕ) (known : List ℕ) (content : Option Content) (numbers : ℕ) where
   abbrev polled : Answer

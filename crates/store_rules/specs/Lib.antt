@@ -5,6 +5,7 @@ pub mod Lookup
 pub mod Store
 pub mod Answers
 pub mod Sweeps
+pub mod Totals
 pub mod View
 pub mod Searching
 pub mod Listing

@@ -1,4 +1,5 @@
--- A trace (request 2027-06): its calls, what each answers, the store at the end, and where a 19 comes, if one does.
+-- A trace (request 2027-06): its calls, what each answers, the store at the end, and where a 19 comes, if one does; and its totals
+-- (request 2027-07).
 use Prim.Native.Nat.{ℕ, zero, suc}
 use mathlib.Core.Bool.{Bool, true, false, cond}
 use mathlib.Core.List.{List, [], _∷_, _++_, map}
@@ -7,6 +8,8 @@ use lib.ListN.{length}
 use Rattle.lists.specs.Bytes.{Bytes}
 use Rattle.lists.specs.Lists.{isEmpty}
 use Rattle.store_rules.specs.Store.{Store, empty, Call, long, Request, Answer, total, rows, recorded, entered, frames, dead, refused, step, run}
+use Rattle.store_rules.specs.Sweeps.{single}
+use Rattle.store_rules.specs.Totals.{Totals, totals}
 use Rattle.trace_format.specs.Reading.{got, cutShort, bad, ReadCall, readCall}
 
 -- ---- the calls of a trace
@@ -63,3 +66,9 @@ linesFrom s t = refusals s (map lent (t .calls)) ++ cond (t .whole) [] (19 ∷ [
 
 unfoldable pub lines : Trace → List ℕ
 lines = linesFrom empty
+
+-- ---- its totals
+
+-- those of its calls, from the empty store
+unfoldable pub traceTotals : Trace → Totals
+traceTotals t = totals empty (map single (map lent (t .calls)))

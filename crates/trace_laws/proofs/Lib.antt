@@ -3,3 +3,4 @@ pub mod Breaking
 pub mod LongEnough
 pub mod Examples
 pub mod WritingAgain
+pub mod Totals

@@ -5,10 +5,12 @@ use mathlib.Core.Path.{_≡_, refl, _∙_}
 use mathlib.Core.Bool.{true}
 use mathlib.Core.List.{List, [], _∷_, _++_, append-assoc, map}
 use mathlib.Core.Option.{none, some}
-use lib.ListN.{length, length-append}
+use lib.ListN.{length}
 use lib.Seq.{take-at, drop-at}
 use Rattle.lists.specs.Bytes.{Bytes, eqBytes}
 use Rattle.lists.specs.Lists.{Each, collect, chunks}
+use Rattle.lists.proofs.Keeping.{each-of}
+use Rattle.lists.proofs.Writing.{collect-length}
 use Rattle.wire.specs.Numbers.{num, digits}
 use Rattle.wire.proofs.NumberLaws.{length-digits, num-digits}
 use Rattle.store_rules.specs.Frames.{ConsumedKind, mined, taken, takenBy, Consumed, GuardKind, reparked, unhydratable, Guard}
@@ -21,11 +23,6 @@ use Rattle.trace_laws.specs.Laws.{ReadsBack}
 use Rattle.trace_format.proofs.Calls.{ReadAs, read-none, read-call, read-whole}
 
 -- ---- the parts of a call
-
-collected-length : (l : List ℕ) → length (collect (digits 8) l) ≡ 8 * length l
-unfolding collect
-collected-length [] = refl
-collected-length (n ∷ l) = rw length-append (omega (arith, length-digits 8 n, collected-length l))
 
 collected-back : (l : List ℕ) → Each NumberFits l → map num (chunks 8 (length l) (collect (digits 8) l)) ≡ l
 unfolding collect chunks
@@ -54,7 +51,7 @@ module _ {A : Type 0} where
 
   numbers-back : Back NumbersFit numbersWritten numbers
   unfolding numbers numbersWritten
-  numbers-back l rest next h = list-back 8 (length l) (collect (digits 8) l) rest _ (h .0) (collected-length l) ∙ rw (collected-back l (h .1))
+  numbers-back l rest next h = list-back 8 (length l) (collect (digits 8) l) rest _ (h .0) (collect-length (digits 8) 8 l (each-of _ l (λ n m. length-digits 8 n))) ∙ rw (collected-back l (h .1))
 
   hashes-back : Back CountFits hashesWritten hashes
   unfolding hashes hashesWritten

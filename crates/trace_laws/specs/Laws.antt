@@ -1,4 +1,4 @@
--- What holds of every trace (request 2027-06).
+-- What holds of every trace (request 2027-06), and of its totals (request 2027-07).
 use Prim.Native.Nat.{ℕ, _+_, _≤_, _<_}
 use mathlib.Core.Path.{_≡_}
 use mathlib.Core.Bool.{true, false}
@@ -7,10 +7,11 @@ use lib.ListN.{length, take, drop}
 use Rattle.lists.specs.Bytes.{Bytes}
 use Rattle.lists.specs.Lists.{Each, collect, isEmpty}
 use Rattle.store_rules.specs.Store.{empty, Call}
+use Rattle.store_laws.specs.Totals.{accountedFor}
 use Rattle.trace_format.specs.Reading.{readCall}
 use Rattle.trace_format.specs.Writing.{writeCall, Fits}
 use Rattle.trace_format.specs.Standing.{NotRead}
-use Rattle.trace_format.specs.Traces.{readTrace, lent, refusals}
+use Rattle.trace_format.specs.Traces.{Trace, readTrace, lent, endStore, refusals, traceTotals}
 
 -- ---- every list of calls within the widths can be written as a trace, and is read from it
 
@@ -39,3 +40,12 @@ EveryBreak = (bs : Bytes) → length bs ≤ 65536 → readTrace bs .whole ≡ fa
 
 abbrev pub NeverShort : Type 0
 NeverShort = (cs : List Call) → Each (λ n. n ≡ 5 → ⊥) (refusals empty (map lent cs))
+
+-- ---- its totals: what was accepted is held, or was rescued, is dead or was evicted
+
+abbrev pub TraceAddsUp : Type 0
+TraceAddsUp = (bs : Bytes) → traceTotals (readTrace bs) .accepted ≡ accountedFor (traceTotals (readTrace bs))
+
+-- held are the entries of the store at the end
+abbrev pub HeldAtTheEnd : Type 0
+HeldAtTheEnd = (t : Trace) → traceTotals t .held ≡ length (endStore t .entries)
