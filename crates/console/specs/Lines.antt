@@ -1,4 +1,5 @@
--- Document 01's line of a fold, and request 2027-06's lines of a trace, as the texts that are put one by one.
+-- Document 01's line of a fold, request 2027-06's lines of a trace and request 2027-07's totals below them, as the texts that are put
+-- one by one.
 use Prim.Native.Nat.{ℕ, suc, _/_, _%_}
 use mathlib.Core.Bool.{cond}
 use mathlib.Core.List.{List, [], _∷_, _++_}
@@ -45,3 +46,13 @@ placedLine place n = decimal place ∷ (32 ∷ []) ∷ decimal n ∷ (10 ∷ [])
 unfoldable pub placedLines : ℕ → List ℕ → List Bytes
 placedLines place [] = []
 placedLines place (n ∷ ns) = placedLine place n ++ placedLines (suc place) ns
+
+-- accepted N held N rescued N dead N evicted N
+unfoldable pub traceTotalsLine : ℕ → ℕ → ℕ → ℕ → ℕ → List Bytes
+traceTotalsLine accepted held rescued dead evicted =
+    counted (97 ∷ 99 ∷ 99 ∷ 101 ∷ 112 ∷ 116 ∷ 101 ∷ 100 ∷ []) accepted
+    ++ counted (32 ∷ 104 ∷ 101 ∷ 108 ∷ 100 ∷ []) held
+    ++ counted (32 ∷ 114 ∷ 101 ∷ 115 ∷ 99 ∷ 117 ∷ 101 ∷ 100 ∷ []) rescued
+    ++ counted (32 ∷ 100 ∷ 101 ∷ 97 ∷ 100 ∷ []) dead
+    ++ counted (32 ∷ 101 ∷ 118 ∷ 105 ∷ 99 ∷ 116 ∷ 101 ∷ 100 ∷ []) evicted
+    ++ ((10 ∷ []) ∷ [])

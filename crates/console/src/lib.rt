@@ -1,11 +1,11 @@
-// What the programs write: words, numbers, hex digits, the line of a fold and the lines of a trace are put into a buffer, which goes to standard output
-// when it is full and at the end. What is written is no part of the logic, so the contracts say what waits in the buffer.
+// What the programs write: words, numbers, hex digits, the line of a fold, and the lines and totals of a trace are put into a buffer,
+// which goes to standard output when it is full and at the end. What is written is no part of the logic, so the contracts say what waits in the buffer.
 ghost use mathlib.Core.Path.{_≡_};
 ghost use mathlib.Core.List.{[], _∷_, _++_};
 ghost use Prim.Native.Nat.{_+_, _≤_};
 ghost use lib.Dec.{ltb};
 ghost use lib.ListN.{length, take};
-ghost use Rattle.console.specs.Lines.{counted, refusalLine, totalsLine, foldLine, placedLine, placedLines};
+ghost use Rattle.console.specs.Lines.{counted, refusalLine, totalsLine, foldLine, placedLine, placedLines, traceTotalsLine};
 ghost use Rattle.console.specs.Waiting.{count, waits, behind, allBehind, decimal, pairs};
 use libc::STDERR_FILENO;
 use libc::STDOUT_FILENO;
@@ -153,6 +153,25 @@ pub fn trace_lines(out: &mut Output, lines: &[u64])
         placed_line(out, i, lines[i]);
         i += 1;
     }
+}
+
+// The last line of a trace: its totals.
+pub fn trace_totals_line(
+    out: &mut Output,
+    accepted: usize,
+    held: usize,
+    rescued: usize,
+    dead: usize,
+    evicted: usize,
+)
+    ensures { λ _. ⌜ waits (now (out .exit)) ≡ allBehind (waits (now (out .entry))) (traceTotalsLine accepted held rescued dead evicted) ⌝ }
+{
+    count(out, b"accepted", accepted as u64);
+    count(out, b" held", held as u64);
+    count(out, b" rescued", rescued as u64);
+    count(out, b" dead", dead as u64);
+    count(out, b" evicted", evicted as u64);
+    text(out, b"\n");
 }
 
 // Whether a program that takes no argument was given one: its own name counts among them. If so, its usage goes to standard

@@ -11,6 +11,7 @@ use Rattle.store_rules.specs.Frames.{Consumed, GuardKind}
 use Rattle.store_rules.specs.Lookup.{Whose, whoseFound, lookup, enters}
 use Rattle.store_rules.specs.Store.{Call, poll, guard, enterTentative, RowForm, long, entered, step, effect, refusal, inputRefusal, roomRefusal, unless}
 use Rattle.store_rules.specs.Answers.{said}
+use Rattle.store_rules.specs.Totals.{isEviction}
 use Rattle.store_rules.specs.Searching.{whoseShown}
 use Rattle.store_rules.specs.declared.lookup.Whose as coded
 use Rattle.answers.specs.Contracts.{asked, heard}
@@ -35,10 +36,10 @@ module _ (form : RowForm) (q : Quarantine) (bs : Bytes) where
       read ≡ got c (drop end bs) → end ≤ length bs → r .size ≡ end → MakesCall form q c slice bytes r slice′ bytes′ → Makes form q bs read slice bytes r slice′ bytes′
   made read c end slice bytes r slice′ bytes′ e h s m = rw e (record { size = omega (arith, length-drop end bs); made = m })
 
-  module _ (read : ReadCall) (c : Call) (end : ℕ) (o : Answered) (r : Made) (is : read ≡ got c (drop end bs)) (h : end ≤ length bs) (e : r ≡ answeredAs end o) (nobody : TellsNobody c) where
+  module _ (read : ReadCall) (c : Call) (end : ℕ) (o : Answered) (r : Made) (is : read ≡ got c (drop end bs)) (h : end ≤ length bs) (e : r ≡ answeredAs end (isEviction c) o) (nobody : TellsNobody c) where
     pub made-answered : (slice bytes slice′ bytes′ : List ℕ) → PerformsIn form q c slice bytes o slice′ bytes′ → Makes form q bs read slice bytes r slice′ bytes′
     made-answered slice bytes slice′ bytes′ p =
-        rw e (made read c end slice bytes (answeredAs end o) slice′ bytes′ is h refl (record { whose = tells-nobody (viewOf q) (asked form c slice bytes) nobody; steps = p }))
+        rw e (made read c end slice bytes (answeredAs end (isEviction c) o) slice′ bytes′ is h refl (record { evicts = refl; whose = tells-nobody (viewOf q) (asked form c slice bytes) nobody; steps = p }))
 
     -- it takes no slice of bytes, or none at all
     pub made-numbers : NoBytes c → (slice slice′ bytes : List ℕ) → PerformsIn form q c slice [] o slice′ [] → Makes form q bs read slice bytes r slice′ bytes
@@ -64,9 +65,10 @@ told w none e =
     λ i. record { found = a i; sender = b i; place = c i }
 
 pub entered-call : (q : Quarantine) (hash : Bytes) (c : Consumed) (size : ℕ) (o : EnteredStore) (slice bytes : List ℕ) → Enters q hash c o →
-    MakesCall long q (enterTentative hash c) slice bytes (record { size = size; reply = Entered; whose = o .whose; store = o .store }) slice bytes
+    MakesCall long q (enterTentative hash c) slice bytes (record { size = size; evicts = false; reply = Entered; whose = o .whose; store = o .store }) slice bytes
 unfolding step refusal inputRefusal roomRefusal orElse unless effect
 entered-call q hash c size o slice bytes e = record {
+  evicts = refl;
   whose = told (o .whose) (whoseFound (lookup (enters hash) (viewOf q .entries))) (e .answer);
   steps = any-slice viewOf long q (enterTentative hash c) (heardEntering (o .whose)) (o .store) slice bytes tt e;
 }

@@ -1,6 +1,7 @@
 -- What the reader of one call promises: that it makes the call that the definitions read, and gives what this call gives.
 use Prim.Native.Nat.{ℕ, _-_}
 use mathlib.Core.Path.{_≡_}
+use mathlib.Core.Bool.{Bool, false}
 use mathlib.Core.List.{List}
 use mathlib.Core.Option.{none}
 use lib.ListN.{length}
@@ -8,6 +9,7 @@ use Rattle.lists.specs.Bytes.{Bytes}
 use Rattle.refusal.specs.declared.Refusal.the-variants.{BadTrace}
 use Rattle.store_rules.specs.Store.{Call, RowForm, Answer, total, rows, recorded, entered, frames, dead, refused, step}
 use Rattle.store_rules.specs.Answers.{Said}
+use Rattle.store_rules.specs.Totals.{isEviction}
 use Rattle.store_rules.specs.Searching.{whoseShown}
 use Rattle.store_rules.specs.declared.lookup.Whose.{Whose}
 use Rattle.answers.specs.Contracts.{heard, asked, Steps}
@@ -41,18 +43,19 @@ whoseTold (frames l) = whoseShown none
 whoseTold (dead l) = whoseShown none
 whoseTold (refused n) = whoseShown none
 
--- a call gives what its step gives, and whose the frame is
+-- a call gives what its step gives, whether it is an eviction, and whose the frame is
 pub record MakesCall (form : RowForm) (q : Quarantine) (c : Call) (slice bytes : List ℕ) (r : Made) (slice′ bytes′ : List ℕ) : Type 0 where
+  pub evicts : r .evicts ≡ isEviction c
   pub whose : r .whose ≡ whoseTold (step (viewOf q) (asked form c slice bytes) .1)
   pub steps : Steps viewOf form q c slice bytes (replySaid (r .reply) (r .whose)) (r .store) slice′ bytes′
 
 -- no call: refusal 19, and nothing changes
 abbrev pub nothing : Quarantine → Made
-nothing q = record { size = 0; reply = reply.Answered (Refused BadTrace); whose = whoseShown none; store = q }
+nothing q = record { size = 0; evicts = false; reply = reply.Answered (Refused BadTrace); whose = whoseShown none; store = q }
 
--- a call of so many bytes, with what it answered
-abbrev pub answeredAs : ℕ → Answered → Made
-answeredAs size r = record { size = size; reply = reply.Answered (r .answer); whose = whoseShown none; store = r .store }
+-- a call of so many bytes, an eviction or none, with what it answered
+abbrev pub answeredAs : ℕ → Bool → Answered → Made
+answeredAs size evicts r = record { size = size; evicts = evicts; reply = reply.Answered (r .answer); whose = whoseShown none; store = r .store }
 
 -- as the bytes are read
 abbrev pub MakesRead : RowForm → Quarantine → ReadCall → List ℕ → List ℕ → Made → List ℕ → List ℕ → Type 0

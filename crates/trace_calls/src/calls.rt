@@ -26,14 +26,15 @@ use trace_parts::hash_at;
 use trace_parts::list_end;
 use trace_parts::put_numbers;
 
-// A call of so many bytes, with what it answered.
-fn answered(size: usize, r: Answered) -> Made
-    ensures { λ m. ⌜ m ≡ answeredAs size r ⌝ }
+// A call of so many bytes, an eviction or none, with what it answered.
+fn answered(size: usize, evicts: bool, r: Answered) -> Made
+    ensures { λ m. ⌜ m ≡ answeredAs size evicts r ⌝ }
 {
     let answer = r.answer;
     let store = r.store;
     Made {
         size: size,
+        evicts: evicts,
         reply: Reply::Answered(answer),
         whose: Whose {
             found: false,
@@ -60,7 +61,7 @@ pub(crate) fn push(q: Quarantine, bytes: &[u8]) -> Made
         gas: wire::number(bytes, 78, 8),
         ticket: wire::number(bytes, 86, 8),
     };
-    answered(94, q.push(frame))
+    answered(94, false, q.push(frame))
 }
 
 // A poll without content.
@@ -137,7 +138,7 @@ fn poll_content_at(
         &bytes[from..end],
         rows,
     );
-    answered(end, r)
+    answered(end, false, r)
 }
 
 // CQ, and any mark with the inputs of a poll: the sender's frames are polled. Over 256 known nonces their number alone decides the
@@ -169,7 +170,7 @@ pub fn make_poll(q: Quarantine, form: RowForm, bytes: &[u8], rows: &mut [u64]) -
         &known[0..count],
         rows,
     );
-    answered(at + 1, r)
+    answered(at + 1, false, r)
 }
 
 // CG: a guard of either kind is recorded. Over 16 predecessors their number alone decides the answer, so no more than 17 are kept.
@@ -191,7 +192,7 @@ pub(crate) fn guard(q: Quarantine, bytes: &[u8]) -> Made
     let contents = &bytes[from..end];
     if bytes[2] == 2 {
         let r = q.record_unhydratable_guard_with_content(hash, &preds[0..count], contents);
-        return answered(end, r);
+        return answered(end, false, r);
     }
     if bytes[2] != 1 {
         return no_call(q);
@@ -201,7 +202,7 @@ pub(crate) fn guard(q: Quarantine, bytes: &[u8]) -> Made
     }
     let boundary = wire::number(bytes, end, 8);
     let r = q.record_repark_guard_with_content(hash, &preds[0..count], contents, boundary);
-    answered(end + 8, r)
+    answered(end + 8, false, r)
 }
 
 // A frame becomes tentative, by a call of so many bytes.
@@ -224,6 +225,7 @@ fn enter_by(
     let store = r.store;
     Made {
         size: size,
+        evicts: false,
         reply: Reply::Entered,
         whose: whose,
         store: store,
@@ -269,7 +271,7 @@ pub(crate) fn reorganise(q: Quarantine, bytes: &[u8], tickets: &mut [u64]) -> Ma
     }
     let block = wire::number(bytes, 2, 8);
     if bytes[10] == 0 {
-        return answered(11, q.check_reorg(block, false, [0u8; 32], tickets));
+        return answered(11, false, q.check_reorg(block, false, [0u8; 32], tickets));
     }
     if bytes[10] != 1 {
         return no_call(q);
@@ -277,7 +279,11 @@ pub(crate) fn reorganise(q: Quarantine, bytes: &[u8], tickets: &mut [u64]) -> Ma
     if bytes.len() < 43 {
         return no_call(q);
     }
-    answered(43, q.check_reorg(block, true, hash_at(bytes, 11), tickets))
+    answered(
+        43,
+        false,
+        q.check_reorg(block, true, hash_at(bytes, 11), tickets),
+    )
 }
 
 // CF: blocks become final.
@@ -290,6 +296,7 @@ pub(crate) fn finalise(q: Quarantine, bytes: &[u8], numbers: &mut [u64], hashes:
     }
     answered(
         10,
+        false,
         q.check_finalized(wire::number(bytes, 2, 8), numbers, hashes),
     )
 }
@@ -302,5 +309,5 @@ pub(crate) fn evict(q: Quarantine, bytes: &[u8], tickets: &mut [u64]) -> Made
     if bytes.len() < 22 {
         return no_call(q);
     }
-    answered(22, q.evict_sender(address_at(bytes, 2), tickets))
+    answered(22, true, q.evict_sender(address_at(bytes, 2), tickets))
 }

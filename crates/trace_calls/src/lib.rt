@@ -19,10 +19,11 @@ pub enum Reply {
     Entered,
 }
 
-// A call that was made: its size in bytes, its reply, whose the frame is that entered, zeros at any other call, and the store after
-// it. Where no call stands the size is 0 and the reply is refusal 19.
+// A call that was made: its size in bytes, whether it is an eviction, its reply, whose the frame is that entered, zeros at any other
+// call, and the store after it. Where no call stands the size is 0 and the reply is refusal 19.
 pub struct Made {
     pub size: usize,
+    pub evicts: bool,
     pub reply: Reply,
     pub whose: Whose,
     pub store: Quarantine,
@@ -34,6 +35,7 @@ fn no_call(q: Quarantine) -> Made
 {
     Made {
         size: 0,
+        evicts: false,
         reply: Reply::Answered(Answer::Refused(Refusal::BadTrace)),
         whose: Whose {
             found: false,

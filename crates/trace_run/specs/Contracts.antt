@@ -1,14 +1,21 @@
--- What the run of a trace promises: the lines and the store that the definitions say.
+-- What the run of a trace promises: the lines, the totals and the store that the definitions say.
 use Prim.Native.Nat.{ℕ}
 use mathlib.Core.Path.{_≡_}
+use mathlib.Core.Bool.{Bool}
 use mathlib.Core.List.{List}
 use lib.ListN.{length}
 use Rattle.lists.specs.Bytes.{Bytes}
 use Rattle.lists.specs.Lists.{written}
 use Rattle.store_rules.specs.Answers.{Said, saysTotal, saysRows, saysRecorded, saysEntered, saysFrames, saysDead, saysRefused}
+use Rattle.store_rules.specs.Totals.{Totals}
+use Rattle.queries.specs.Queries.{len}
 use Rattle.answers.specs.Contracts.{heard}
 use Rattle.gap_quarantine.specs.Contracts.{viewOf}
-use Rattle.trace_format.specs.Traces.{Trace, readTrace, endStore, lines}
+use Rattle.gap_quarantine.specs.declared.Quarantine.{Quarantine}
+use Rattle.trace_format.specs.Traces.{Trace, readTrace, endStore, lines, traceTotals}
+use Rattle.trace_totals.specs.Counting.{numbersSaid, counted, withHeld}
+use Rattle.trace_totals.specs.declared.Counts.{Counts}
+use Rattle.trace_totals.specs.declared.Totals as coded
 use Rattle.trace_calls.specs.declared.Reply.{Reply}
 use Rattle.trace_calls.specs.declared.Reply.the-variants.{Answered, Entered}
 use Rattle.trace_run.specs.declared.Ran.{Ran}
@@ -29,12 +36,38 @@ abbrev pub numberOf : Reply → ℕ
 numberOf (Answered a) = numberSaid (heard a)
 numberOf Entered = 0
 
+-- how many numbers it lists
+abbrev pub numbersListed : Reply → ℕ
+numbersListed (Answered a) = numbersSaid (heard a)
+numbersListed Entered = 0
+
+-- the counts after it
+abbrev pub countedBy : Counts → Bool → Reply → List ℕ → Counts
+countedBy c evicts (Answered a) numbers = counted c evicts (heard a) numbers
+countedBy c evicts Entered numbers = c
+
 -- ---- the run
 
--- a number for each line, at the front of the slice, how many these are, and the store at the end
+-- the end of a run: so many lines, whether the trace is whole, what the calls came to, and this store, in which what is held is counted
+abbrev pub endedWith : ℕ → Bool → Counts → Quarantine → Ran
+endedWith lines whole c q =
+    record {
+      lines = lines;
+      whole = whole;
+      totals = withHeld c (len (viewOf q));
+      store = q;
+    }
+
+-- the totals of the code are these
+abbrev pub totalsOf : coded.Totals → Totals
+totalsOf t = record { accepted = t .accepted; held = t .held; rescued = t .rescued; dead = t .dead; evicted = t .evicted }
+
+-- a number for each line, at the front of the slice, how many these are, whether the trace is whole, its totals, and the store at the end
 pub record RunsTo (t : Trace) (slice : List ℕ) (r : Ran) (slice′ : List ℕ) : Type 0 where
   pub counted : r .lines ≡ length (lines t)
   pub sliceAfter : slice′ ≡ written (lines t) slice
+  pub whole : r .whole ≡ t .whole
+  pub totals : totalsOf (r .totals) ≡ traceTotals t
   pub store : viewOf (r .store) ≡ endStore t
 
 abbrev pub Runs : Bytes → List ℕ → Ran → List ℕ → Type 0

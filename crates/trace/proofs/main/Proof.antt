@@ -1,6 +1,6 @@
 use native.Mathlib.Omega.{arith}
-use borrow.Author.Needs.{needs}
 use Rattle.trace_run.proofs.Running.{ran-within}
+use borrow.Author.Needs.{needs}
 use Rattle.trace.proofs.main.Statement.{statement}
 use Rattle.trace.proofs.main.Tie as tie
 
@@ -41,10 +41,13 @@ part-trace-lines-start : tie.Need-part-trace-lines-start
 part-trace-lines-start c = search needs
 
 part-trace-lines-end : tie.Need-part-trace-lines-end
-part-trace-lines-end c = omega (arith, ran-within _ _ _ _ ((c .before .before) .run-trace .ensures))
+part-trace-lines-end c = omega (arith, ran-within _ _ _ _ ((c .before .before .before) .run-trace .ensures))
 
 trace-lines-requires : tie.Need-trace-lines-requires
 trace-lines-requires c κs = search needs
+
+trace-totals-line-requires : tie.Need-trace-totals-line-requires
+trace-totals-line-requires c κs = search needs
 
 flush-requires : tie.Need-flush-requires
 flush-requires c κs = search needs
@@ -70,5 +73,6 @@ main-spec =
     part-trace-lines-start
     part-trace-lines-end
     trace-lines-requires
+    trace-totals-line-requires
     flush-requires
     returns-2)
