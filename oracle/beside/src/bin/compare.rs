@@ -96,6 +96,9 @@ impl Run<'_> {
         self.differences += c.scripts - store + d.journals - journal + c.model + c.replay + d.model + d.ours;
         self.seen.add(&c.seen);
         self.seen.add(&d.seen);
+        let totals = usize::from(traces::example(self.trace));
+        println!("request 2027-07's example, with its totals: {totals} of 1");
+        self.differences += 1 - totals;
         let mut hold = 0;
         for (says, check) in intended::ALL {
             match check(self.folder) {
@@ -126,7 +129,7 @@ impl Run<'_> {
     fn traces(&mut self) {
         let random = traces::random(self.sizes.seed, self.sizes.traces, self.trace);
         println!("traces, random: {random}");
-        self.differences += random.unread + random.model + random.program;
+        self.differences += random.unread + random.uneven + random.model + random.program;
         self.seen.add(&random.seen);
         self.counts.push(format!("{} traces of {} calls", random.traces, random.calls));
     }

@@ -16,8 +16,9 @@ use beside::store::answers::Answer;
 use beside::store::calls::Call;
 use beside::store::due::Due;
 use beside::store::generate::{long_script, script, unswept_script};
+use beside::store::original::Original as Store;
 use beside::store::script::{bytes_of, led, Script};
-use beside::store::trace::lines::{lines, places};
+use beside::store::trace::lines::{lines, places, run, text};
 use beside::store::trace::wrong::{Wrong as Misread, ALL as MISREAD};
 use beside::store::{self, strength as stores};
 use std::collections::BTreeSet;
@@ -55,8 +56,8 @@ const POLL_REFUSALS: [u8; 2] = [3, 4];
 /// The refusals that a sweep can meet in a script.
 const SWEEP_REFUSALS: [u8; 3] = [17, 18, 3];
 
-/// The wrong rules for traces that are not told by one trace, within the limit and whole up to a last call that is cut short.
-const NOT_BY_ONE: [Misread; 17] = [
+/// The wrong rules for traces that are not told by one trace that is whole and below the limit.
+const NOT_BY_ONE: [Misread; 26] = [
     Misread::MarksOfScripts,
     Misread::MarkBySecond,
     Misread::OptionalTwo,
@@ -66,6 +67,8 @@ const NOT_BY_ONE: [Misread; 17] = [
     Misread::GuardKindThree,
     Misread::EnterKindZero,
     Misread::EnterKindFour,
+    Misread::CutRuns,
+    Misread::CutPassedOver,
     Misread::ByteLeft,
     Misread::LimitOneMore,
     Misread::LimitOneLess,
@@ -73,7 +76,14 @@ const NOT_BY_ONE: [Misread; 17] = [
     Misread::LimitRunsUp,
     Misread::LimitBehind,
     Misread::RunsOn,
+    Misread::NineteenSilent,
+    Misread::NineteenAlone,
+    Misread::NineteenFirst,
+    Misread::NineteenOfLast,
     Misread::EmptyRefused,
+    Misread::TotalsOfNineteen,
+    Misread::TotalsNotOfEmpty,
+    Misread::TotalsInAByte,
 ];
 
 /// The refusals that random journals with a long output, and records alone, meet.
@@ -175,22 +185,24 @@ fn form(call: &Call) -> u8 {
 }
 
 fn freeze_trace(folder: &Path) {
-    let mut input = bytes_of(&store::manual::traced());
-    // the last call is cut short
-    input.pop();
-    let output = lines(&input, None);
+    let input = bytes_of(&store::manual::traced());
     let read = places(&input, None);
+    let ran = run(&read, &mut Store::default(), None);
+    let output = text(&ran, None);
     let forms: BTreeSet<(&str, u8)> = read.iter().flatten().map(|call| (call.mark(), form(call))).collect();
     assert_eq!(forms.len(), 12, "every call in every form stands in the trace");
     for number in STORE_REFUSALS {
-        assert!(output.contains(&format!(" {number}\n")), "refusal {number} stands in the trace");
+        assert!(ran.numbers.contains(&number), "refusal {number} stands in the trace");
     }
-    assert!(output.ends_with(" 19\n"), "the trace ends so");
+    for (word, number) in ran.totals.words() {
+        assert!(number > 0, "{word} is above 0 in the trace");
+    }
+    assert!(output.ends_with(&format!("\n{}\n", ran.totals.line(None))), "the trace ends so");
     let tells = |wrong: Misread| lines(&input, Some(wrong)) != output;
     let untold: Vec<Misread> = MISREAD.iter().map(|(wrong, _)| *wrong).filter(|wrong| !tells(*wrong)).collect();
     assert_eq!(untold, NOT_BY_ONE, "what the trace does not tell");
     write(folder, &input, &output);
-    println!("trace: {} lines, standard input {} bytes, output {} bytes", read.len(), input.len(), output.len());
+    println!("trace: {} calls, standard input {} bytes, output {} bytes", read.len(), input.len(), output.len());
 }
 
 // ---- journals

@@ -1,10 +1,11 @@
 //! The kinds that one trace meets.
 use super::{Kind, Seen};
 use crate::store::reading::Bad;
-use crate::store::trace::lines::{Placed, TRACE_LIMIT};
+use crate::store::trace::lines::{Placed, Ran, TRACE_LIMIT};
+use crate::store::trace::totals::Totals;
 
-/// Notes what stands in a trace, and the numbers of its places.
-pub fn see_trace(seen: &mut Seen, bytes: &[u8], places: &[Placed], numbers: &[u8]) {
+/// Notes what stands in a trace, the numbers of its places, and the totals that are printed of it.
+pub fn see_trace(seen: &mut Seen, bytes: &[u8], places: &[Placed], ran: &Ran) {
     if bytes.len() == TRACE_LIMIT {
         seen.see(Kind::TraceFull);
     }
@@ -16,7 +17,25 @@ pub fn see_trace(seen: &mut Seen, bytes: &[u8], places: &[Placed], numbers: &[u8
             seen.see(if places.len() == 1 { Kind::TraceFirst } else { Kind::TraceLater });
         }
     }
-    numbers.iter().filter_map(|number| refused(*number)).for_each(|kind| seen.see(kind));
+    ran.numbers.iter().filter_map(|number| refused(*number)).for_each(|kind| seen.see(kind));
+    if places.iter().all(|placed| placed.is_ok()) {
+        see_totals(seen, &ran.totals, places.is_empty());
+    }
+}
+
+fn see_totals(seen: &mut Seen, totals: &Totals, empty: bool) {
+    let numbers = totals.words().map(|(_, number)| number);
+    let kinds = [
+        (Kind::TotalsAccepted, totals.accepted > 0),
+        (Kind::TotalsHeld, totals.held > 0),
+        (Kind::TotalsRescued, totals.rescued > 0),
+        (Kind::TotalsDead, totals.dead > 0),
+        (Kind::TotalsEvicted, totals.evicted > 0),
+        (Kind::TotalsAll, !numbers.contains(&0)),
+        (Kind::TotalsLarge, numbers.iter().any(|number| *number > 255)),
+        (Kind::TotalsOfEmpty, empty && numbers == [0; 5]),
+    ];
+    kinds.into_iter().filter(|(_, holds)| *holds).for_each(|(kind, _)| seen.see(kind));
 }
 
 fn no_call(bad: Bad) -> Kind {

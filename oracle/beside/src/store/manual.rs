@@ -1,5 +1,5 @@
-//! The scripts that README.md and docs/ANSWERS.md show: the life of one frame, and the answers of each call; and the trace of the
-//! tests, made of them.
+//! The scripts that README.md and docs/ANSWERS.md show: the life of one frame, and the answers of each call; the trace of the
+//! tests, made of them; and request 2027-07's example.
 use super::calls::{Address, Call, Consumed, Content, Frame, GuardCall, Hash, Sweep};
 
 const A: Address = [1; 20];
@@ -352,12 +352,23 @@ pub fn answers() -> Vec<Vec<Call>> {
     [long, short_scripts(), sweep_scripts()].concat()
 }
 
-/// One trace of the calls that a trace may have: the life of F, then what the scripts of each call have of them. The senders are
-/// evicted behind each script, so that the next one finds no frame.
+/// Request 2027-07's example: F pushed, then polled at head 8, and what is printed of it by the request.
+pub fn totals_example() -> (Vec<Call>, &'static str) {
+    (vec![f(), poll(8, &[])], "0 0\n1 0\naccepted 1 held 0 rescued 1 dead 0 evicted 0\n")
+}
+
+/// Two frames are rescued by one poll, and a tracked and a tentative one stay.
+fn last_of_trace() -> Vec<Call> {
+    vec![f(), push(G, A, 5, 8, 8), poll(8, &[]), f(), push(G, B, 5, 8, 8), enter(G, 1, 100, BLOCK)]
+}
+
+/// One trace of the calls that a trace may have: the life of F, then what the scripts of each call have of them, and last what
+/// leaves frames held. The senders are evicted behind each script, so that the next one finds no frame.
 pub fn traced() -> Vec<Call> {
     let scripts = [vec![life()], push_scripts(), poll_scripts(), guard_scripts(), block_scripts()].concat();
     let evictions = [A, B, C].map(|sender| Call::Evict { sender });
     let mut calls: Vec<Call> = scripts.into_iter().flat_map(|script| [script, evictions.to_vec()].concat()).collect();
+    calls.extend(last_of_trace());
     calls.retain(Call::is_traced);
     calls
 }

@@ -1,12 +1,14 @@
-//! Random traces on the Rust, on the model, and on our program: the same lines.
+//! Random traces, and request 2027-07's example, on the Rust, on the model, and on our program: the same lines.
 use super::generate::{trace, Trace};
-use super::lines::{numbers, places, text};
+use super::lines::{lines, places, run, text};
 use super::strength::show_smallest;
 use crate::program::Program;
 use crate::report::tell;
 use crate::seen::{see_trace, Seen};
 use crate::store::calls::Call;
+use crate::store::manual::totals_example;
 use crate::store::original::Original;
+use crate::store::script::bytes_of;
 use crate::store::strength::{show, tells};
 use std::fmt;
 
@@ -18,6 +20,8 @@ pub struct Counts {
     pub seen: Seen,
     /// Whole traces that are not read as the calls that they were made of.
     pub unread: usize,
+    /// Traces in which the Rust's own totals do not add up.
+    pub uneven: usize,
     pub model: usize,
     pub ran: usize,
     pub program: usize,
@@ -26,7 +30,8 @@ pub struct Counts {
 impl fmt::Display for Counts {
     fn fmt(&self, f: &mut fmt::Formatter<'_>) -> fmt::Result {
         write!(f, "{} traces, {} calls; whole traces not read back {}, ", self.traces, self.calls, self.unread)?;
-        write!(f, "differences from the model {}; {} runs of trace, {} that differ", self.model, self.ran, self.program)
+        write!(f, "totals that do not add up {}, differences from the model {}; ", self.uneven, self.model)?;
+        write!(f, "{} runs of trace, {} that differ", self.ran, self.program)
     }
 }
 
@@ -37,9 +42,22 @@ pub fn random(seed: u64, traces: u64, program: Option<&Program>) -> Counts {
     counts
 }
 
+/// Whether what request 2027-07 says of its example is due, and is printed by our program if there is one.
+pub fn example(program: Option<&Program>) -> bool {
+    let (calls, says) = totals_example();
+    let bytes = bytes_of(&calls);
+    let holds = |side: &str, text: String| {
+        if text != says {
+            println!("NOT SO: request 2027-07 says {says:?}; {side}: {text:?}");
+        }
+        text == says
+    };
+    holds("the Rust", lines(&bytes, None)) && program.is_none_or(|program| holds("trace", program.run(&bytes)))
+}
+
 fn one(trace: &Trace, program: Option<&Program>, counts: &mut Counts) {
     let read = places(&trace.bytes, None);
-    let due = numbers(&read, &mut Original::default());
+    let due = run(&read, &mut Original::default(), None);
     counts.traces += 1;
     counts.calls += read.iter().flatten().count();
     see_trace(&mut counts.seen, &trace.bytes, &read, &due);
@@ -49,7 +67,15 @@ fn one(trace: &Trace, program: Option<&Program>, counts: &mut Counts) {
             println!("DIFFERENCE: trace {} is not read as the calls that it was made of", trace.seed);
         }
     }
-    let calls: Vec<Call> = read.into_iter().flatten().collect();
+    if !due.totals.add_up() {
+        counts.uneven += 1;
+        if tell() {
+            println!("DIFFERENCE: the totals of trace {} do not add up: {}", trace.seed, due.totals.line(None));
+        }
+    }
+    let mut calls: Vec<Call> = read.into_iter().flatten().collect();
+    // what the model holds at the end is compared too
+    calls.push(Call::Len);
     if let Some(place) = tells(&calls, None) {
         counts.model += 1;
         if tell() {

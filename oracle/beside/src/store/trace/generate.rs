@@ -1,8 +1,9 @@
 //! Random traces: the calls of random scripts that a trace has marks for, left whole, cut, damaged in a byte that a reader looks at
-//! or in any, of just as many bytes as a trace may have, or of more.
+//! or in any, of just as many bytes as a trace may have, or of more. Some of the long ones have the shortest calls only, or frames
+//! that come and leave.
 use super::lines::TRACE_LIMIT;
 use crate::random::Random;
-use crate::store::calls::{Call, TRACE_MARKS};
+use crate::store::calls::{Address, Call, Consumed, Frame, TRACE_MARKS};
 use crate::store::generate::long_script;
 use crate::store::script::bytes_of;
 
@@ -61,15 +62,46 @@ fn size(call: &Call) -> usize {
 const TEN: Call = Call::Finality { block: 0 };
 const ELEVEN: Call = Call::Reorg { block: 0, hash: None };
 
+/// The sender of the frames that come and leave.
+const SENDER: Address = [7; 20];
+
+/// As many frames as a store holds, and calls by which all of them leave: a poll, an eviction, or enterings and finality.
+fn round(r: &mut Random) -> Vec<Call> {
+    let frame =
+        |n: u8| Frame { hash: [n; 32], from: SENDER, expected: 5, claim: 8, chain_id: 1, gas: 21_000, ticket: u64::from(n) };
+    let enter = |n: u8| Call::Enter {
+        hash: [n; 32],
+        consumed: Consumed { kind: 1, block: 100, block_hash: [0x33; 32], taker: [0; 32] },
+    };
+    let mut calls: Vec<Call> = (0..64).map(|n| Call::Push(frame(n))).collect();
+    match r.below(3) {
+        0 => calls.push(Call::poll(SENDER, 8, Vec::new(), None)),
+        1 => calls.push(Call::Evict { sender: SENDER }),
+        _ => {
+            calls.extend((0..64).map(enter));
+            calls.push(Call::Finality { block: 100 });
+        }
+    }
+    calls
+}
+
 /// The calls, and those of further seeds behind them, as long as they have at most so many bytes together. Once in three times there
-/// are none but the shortest.
+/// are none but the shortest, and once in six times rounds of frames that come and leave.
 fn padded(r: &mut Random, seed: u64, calls: Vec<Call>, limit: usize) -> Vec<Call> {
     if r.once_in(3) {
         return vec![TEN; limit / 10];
     }
+    if r.once_in(4) {
+        return within(round(r).into_iter().cycle(), limit);
+    }
+    within(calls.into_iter().chain((seed + 1..).flat_map(calls_of)), limit)
+}
+
+/// The first of the calls, as long as they have at most so many bytes together.
+fn within(calls: impl Iterator<Item = Call>, limit: usize) -> Vec<Call> {
     let mut all = Vec::new();
     let mut length = 0;
-    for call in calls.into_iter().chain((seed + 1..).flat_map(calls_of)) {
+    for call in calls {
         length += size(&call);
         if length > limit {
             break;

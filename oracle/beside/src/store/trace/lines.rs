@@ -1,4 +1,6 @@
-//! What stands in a trace, and the lines that are printed of it, written from request 2027-06. A wrong rule may be planted.
+//! What stands in a trace, and the lines that are printed of it, written from requests 2027-06 and 2027-07. A wrong rule may be
+//! planted.
+use super::totals::{Made, Totals};
 use super::wrong::Wrong;
 use crate::store::answers::Answer;
 use crate::store::calls::{Call, Side};
@@ -81,7 +83,7 @@ pub fn parts(bytes: &[u8]) -> Vec<Vec<u8>> {
     parts
 }
 
-// ---- lines
+// ---- running
 
 /// Answers each call on an empty store.
 struct Anew;
@@ -92,15 +94,59 @@ impl Side for Anew {
     }
 }
 
-/// The number of each place: that of the call's refusal or 0, and 19 where no call stands.
-pub fn numbers(places: &[Placed], side: &mut dyn Side) -> Vec<u8> {
-    let number = |placed: &Placed| match placed.as_ref().map(|call| side.answer(call)) {
-        Ok(Answer::Refused(number)) => number,
-        Ok(_) => 0,
-        Err(_) => 19,
-    };
-    places.iter().map(number).collect()
+/// What came of the calls of a trace.
+pub struct Ran {
+    /// The number of each place: that of the call's refusal or 0, and 19 where no call stands.
+    pub numbers: Vec<u8>,
+    /// The totals of the calls that were made, with or without a 19 behind them.
+    pub totals: Totals,
 }
+
+fn number(answer: &Answer) -> u8 {
+    match answer {
+        Answer::Refused(number) => *number,
+        _ => 0,
+    }
+}
+
+/// What a call answers that counts frames.
+fn count(side: &mut dyn Side, call: &Call) -> u64 {
+    match side.answer(call) {
+        Answer::Number(count) => count,
+        answer => panic!("{} does not answer {answer}", call.mark()),
+    }
+}
+
+/// How many frames the store holds.
+fn held(side: &mut dyn Side, wrong: Option<Wrong>) -> u64 {
+    let all = count(side, &Call::Len);
+    match wrong {
+        Some(Wrong::HeldTracked) => all - count(side, &Call::TentativeCount),
+        _ => all,
+    }
+}
+
+/// Makes the calls of a trace one after another.
+pub fn run(places: &[Placed], side: &mut dyn Side, wrong: Option<Wrong>) -> Ran {
+    let mut numbers = Vec::with_capacity(places.len());
+    let mut made: Vec<Made> = Vec::with_capacity(places.len());
+    for placed in places {
+        let Ok(call) = placed else {
+            numbers.push(19);
+            continue;
+        };
+        let answer = side.answer(call);
+        let number = number(&answer);
+        numbers.push(number);
+        made.push((call, answer));
+        if number != 0 && wrong == Some(Wrong::RefusedEnds) {
+            break;
+        }
+    }
+    Ran { numbers, totals: Totals::of(&made, held(side, wrong), wrong) }
+}
+
+// ---- lines
 
 /// The places and numbers that are printed.
 fn printed(numbers: &[u8], wrong: Option<Wrong>) -> Vec<(usize, u8)> {
@@ -115,7 +161,6 @@ fn printed(numbers: &[u8], wrong: Option<Wrong>) -> Vec<(usize, u8)> {
         }
         Some(Wrong::PlaceFromOne) => lines.iter_mut().for_each(|line| line.0 += 1),
         Some(Wrong::EmptyRefused) if lines.is_empty() => lines.push((0, 19)),
-        Some(Wrong::RefusedEnds) => lines.truncate(lines.iter().position(refused).map_or(lines.len(), |place| place + 1)),
         Some(Wrong::RefusedZero) => lines.iter_mut().filter(|line| refused(line)).for_each(|line| line.1 = 0),
         Some(Wrong::RefusedSilent) => {
             lines.retain(|line| !refused(line));
@@ -126,21 +171,41 @@ fn printed(numbers: &[u8], wrong: Option<Wrong>) -> Vec<(usize, u8)> {
     lines
 }
 
-/// The text of the lines of these numbers.
-pub fn text(numbers: &[u8], wrong: Option<Wrong>) -> String {
-    let mut text = String::new();
-    for (place, number) in printed(numbers, wrong) {
-        writeln!(text, "{place} {number}").expect("a string takes all");
+/// Whether the totals of these lines are printed: where none of them has a 19.
+fn has_totals(lines: &[(usize, u8)], wrong: Option<Wrong>) -> bool {
+    let whole = lines.iter().all(|line| line.1 != 19);
+    match wrong {
+        Some(Wrong::TotalsNever) => false,
+        Some(Wrong::TotalsOfNineteen) => true,
+        Some(Wrong::TotalsNotOfEmpty) => whole && !lines.is_empty(),
+        Some(Wrong::TotalsNotOfRefused) => lines.iter().all(|line| line.1 == 0),
+        _ => whole,
     }
-    text
 }
 
-/// The lines of a trace, with the Rust's refusals.
+/// The text that is printed of a trace.
+pub fn text(ran: &Ran, wrong: Option<Wrong>) -> String {
+    let printed = printed(&ran.numbers, wrong);
+    let mut text = String::new();
+    for (place, number) in &printed {
+        writeln!(text, "{place} {number}").expect("a string takes all");
+    }
+    if !has_totals(&printed, wrong) {
+        return text;
+    }
+    let totals = ran.totals.line(wrong);
+    match wrong {
+        Some(Wrong::TotalsFirst) => format!("{totals}\n{text}"),
+        _ => format!("{text}{totals}\n"),
+    }
+}
+
+/// The lines of a trace, with what the Rust answers and holds.
 pub fn lines(bytes: &[u8], wrong: Option<Wrong>) -> String {
     let places = places(bytes, wrong);
-    let numbers = match wrong {
-        Some(Wrong::StoreAnew) => numbers(&places, &mut Anew),
-        _ => numbers(&places, &mut Original::default()),
+    let ran = match wrong {
+        Some(Wrong::StoreAnew) => run(&places, &mut Anew, wrong),
+        _ => run(&places, &mut Original::default(), wrong),
     };
-    text(&numbers, wrong)
+    text(&ran, wrong)
 }

@@ -3,4 +3,5 @@ pub mod compare;
 pub mod generate;
 pub mod lines;
 pub mod strength;
+pub mod totals;
 pub mod wrong;

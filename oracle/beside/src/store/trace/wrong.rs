@@ -1,4 +1,4 @@
-//! Wrong rules for traces, each planted alone into the reader or into the lines; the random traces must tell each.
+//! Wrong rules for traces, each planted alone into the reader, into the totals or into the lines; the random traces must tell each.
 
 sayings! { Wrong {
     MarksOfScripts: "the marks that only scripts have are run",
@@ -39,4 +39,26 @@ sayings! { Wrong {
     RefusedZero: "a refused call prints 0",
     RefusedSilent: "a refused call has no line and no place",
     StoreAnew: "each call is made on an empty store",
+    AcceptedRefused: "accepted: refused pushes count too",
+    AcceptedCalls: "accepted: every call counts that is not refused",
+    AcceptedOnce: "accepted: a hash that is pushed again does not count",
+    AcceptedTotal: "accepted is the total that the last push answered",
+    HeldTracked: "held: tentative frames do not count",
+    HeldLessRescued: "held is what was accepted less what was rescued",
+    RescuedRows: "rescued: every row counts",
+    RescuedConsumed: "rescued: NonceConsumed rows count too",
+    RescuedPolls: "rescued: a poll with Rescue rows counts once",
+    DeadConsumed: "dead: NonceConsumed rows count too",
+    DeadEntered: "dead: frames count that enter tentative, and not those that finality lists",
+    DeadEvicted: "evicted frames are counted as dead",
+    EvictedDead: "dead frames are counted as evicted",
+    EvictedRevived: "evicted: the frames that a reorganisation lists count too",
+    EvictedCalls: "evicted: an eviction that lists frames counts once",
+    TotalsNever: "no totals are printed",
+    TotalsFirst: "the totals stand before the other lines",
+    TotalsOfNineteen: "the totals are printed behind a 19 too",
+    TotalsNotOfEmpty: "an empty trace has no totals",
+    TotalsNotOfRefused: "a trace with a refused call has no totals",
+    TotalsHeldLast: "held stands last in the totals",
+    TotalsInAByte: "a total is kept in one byte",
 }}
