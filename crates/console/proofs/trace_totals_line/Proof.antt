@@ -1,6 +1,6 @@
 use mathlib.Core.Path.{refl}
 use Rattle.console.specs.Lines.{traceTotalsLine}
-use Rattle.console.proofs.Putting.{and-count, and-text}
+use Rattle.console.proofs.Putting.{a-count, and-count, and-text}
 use borrow.Author.Needs.{needs}
 use Rattle.console.proofs.trace_totals_line.Statement.{statement}
 use Rattle.console.proofs.trace_totals_line.Tie as tie
@@ -43,10 +43,12 @@ text-requires c κs = search needs
 
 returns : tie.Need-returns
 unfolding traceTotalsLine
-returns c = let second = and-count _ _ _ _ _ _ _ ((c .before .before .before .before .before .before .before .before .before .before .before .before .before .before .before) .count .ensures) refl ((c .before .before .before .before .before .before .before .before .before .before .before .before) .count2 .ensures) in
-    let third = and-count _ _ _ _ _ _ _ second refl ((c .before .before .before .before .before .before .before .before .before) .count3 .ensures) in
-    let fourth = and-count _ _ _ _ _ _ _ third refl ((c .before .before .before .before .before .before) .count4 .ensures) in
-    let fifth = and-count _ _ _ _ _ _ _ fourth refl ((c .before .before .before) .count5 .ensures) in
+returns c = let a = (c .before .before .before .before .before .before .before .before .before .before .before .before .before .before .before .before .before .before) .args in
+    let first = a-count _ _ (a .accepted) _ _ refl ((c .before .before .before .before .before .before .before .before .before .before .before .before .before .before .before) .count .ensures) in
+    let second = and-count _ _ _ (a .held) _ _ _ first refl ((c .before .before .before .before .before .before .before .before .before .before .before .before) .count2 .ensures) in
+    let third = and-count _ _ _ (a .rescued) _ _ _ second refl ((c .before .before .before .before .before .before .before .before .before) .count3 .ensures) in
+    let fourth = and-count _ _ _ (a .dead) _ _ _ third refl ((c .before .before .before .before .before .before) .count4 .ensures) in
+    let fifth = and-count _ _ _ (a .evicted) _ _ _ fourth refl ((c .before .before .before) .count5 .ensures) in
     and-text _ _ _ _ _ fifth (c .text .ensures)
 
 pub trace-totals-line-spec : {M : Type 1} → statement M
