@@ -25,7 +25,7 @@ use Rattle.store_rules.specs.Lookup.{entriesOf}
 use Rattle.store_rules.specs.Store.{Store, poll, RowForm, long, short, rowWidth, walk, walked, listed, rowsOf, effect, when, badContent, inputRefusal, roomRefusal, refusal, unless, step}
 use Rattle.store_rules.specs.Answers.{decisionNumber, rowNumbers, numbersOf}
 use Rattle.store_rules.proofs.GapNonces.{gap-few}
-use Rattle.store_rules.proofs.PollRows.{Narrow, effect-narrow}
+use Rattle.store_rules.proofs.PollRows.{Narrow, effect-narrow, step-narrow}
 use Rattle.store_rules.proofs.RowForms.{row-length}
 use Rattle.store_laws.specs.ShortRows.{Says, EveryShortRow, Told, noncesIn, decode, decoded, polls, ShortAsLong, ShortNeedsLess}
 
@@ -65,12 +65,7 @@ module _ (r : Row) (n : Narrow r) where
       }
 
 pub every-short-row : EveryShortRow
-unfolding step unless rowsOf
-every-short-row s q = go (refusal s q)
-  where
-    go : (o : Option ℕ) → Each Says (rowsOf (unless o s (effect s (q .call)) .1))
-    go (some n) = tt
-    go none = each-map Narrow Says (rowsOf (effect s (q .call) .1)) row-says (effect-narrow s (q .call))
+every-short-row s q = each-map Narrow Says (rowsOf (step s q .1)) row-says (step-narrow s q)
 
 -- ---- short rows and long ones
 

@@ -1,5 +1,5 @@
 -- The rows that a poll lists: which nonces each has, how many there are, and how many numbers they take.
-use Prim.Native.Nat.{ℕ, _+_, _*_, _≤_}
+use Prim.Native.Nat.{ℕ, _*_, _≤_}
 use native.Mathlib.Omega.{arith}
 use mathlib.Core.Path.{_≡_, refl}
 use mathlib.Core.Bool.{Bool, true, false, cond}
@@ -15,7 +15,7 @@ use Rattle.store_rules.specs.Frames.{Entry, Guard, nonceConsumed, Row, V
 use Rattle.store_rules.specs.Poll.{Content, predecessors, guardMatches, stay, leave, row, pollRule}
 use Rattle.store_rules.specs.Rules.{onlyOf}
 use Rattle.store_rules.specs.Lookup.{entriesOf}
-use Rattle.store_rules.specs.Store.{Store, Call, push, poll, guard, enterTentative, checkReorg, checkFinalized, evictSender, RowForm, rowWidth, Answer, guardOf, dropGuard, walk, walked, rowsOf, effect, refusal, unless, step}
+use Rattle.store_rules.specs.Store.{Store, Call, push, poll, guard, enterTentative, checkReorg, checkFinalized, evictSender, RowForm, rowWidth, Request, Answer, guardOf, dropGuard, walk, walked, rowsOf, effect, refusal, unless, step}
 use Rattle.store_rules.specs.Answers.{rowNumbers, numbersOf}
 use Rattle.store_rules.proofs.GapNonces.{InGap, preds-in-gap, unknown-in-gap, gap-few}
 use Rattle.store_rules.proofs.RowForms.{row-length}
@@ -66,6 +66,14 @@ effect-narrow s (enterTentative h c) = tt
 effect-narrow s (checkReorg b canonical) = tt
 effect-narrow s (checkFinalized n) = tt
 effect-narrow s (evictSender a) = tt
+
+pub step-narrow : (s : Store) (q : Request) → Each Narrow (rowsOf (step s q .1))
+unfolding step unless rowsOf
+step-narrow s q = go (refusal s q)
+  where
+    go : (o : Option ℕ) → Each Narrow (rowsOf (unless o s (effect s (q .call)) .1))
+    go none = effect-narrow s (q .call)
+    go (some n) = tt
 
 -- ---- a poll gives at most one row for each entry of the sender
 
@@ -124,9 +132,4 @@ module _ (s : Store) (form : RowForm) (sender : Bytes) (head : ℕ) (known : Lis
       go (some n) = refl
 
   pub poll-length : length (numbersOf form polled) ≡ rowWidth form * length (rowsOf polled)
-  unfolding step unless rowsOf
-  poll-length = rw poll-writes (rows-length form (rowsOf polled) (go (refusal s (record { call = poll sender head known content; form = form; numbers = numbers; bytes = 0 }))))
-    where
-      go : (o : Option ℕ) → Each Narrow (rowsOf (unless o s (effect s (poll sender head known content)) .1))
-      go none = effect-narrow s (poll sender head known content)
-      go (some n) = tt
+  poll-length = rw poll-writes (rows-length form (rowsOf polled) (step-narrow s (record { call = poll sender head known content; form = form; numbers = numbers; bytes = 0 })))

@@ -1,5 +1,5 @@
 -- What is counted of a call's answer is what the definitions count of it (`adds`).
-use Prim.Native.Nat.{ℕ, suc, _+_}
+use Prim.Native.Nat.{ℕ, suc}
 use native.Mathlib.Omega.{arith}
 use mathlib.Core.Path.{_≡_, refl, sym, ap}
 use mathlib.Core.Bool.{Bool, true, false, cond}
@@ -17,7 +17,7 @@ use Rattle.store_rules.specs.Answers.{decisionNumber, rowNumbers, ticketNumbers
 use Rattle.store_rules.specs.Sweeps.{single}
 use Rattle.store_rules.specs.Totals.{acceptedIn, isRescue, rescuedIn, deadIn, isEviction, evictedIn}
 use Rattle.store_rules.proofs.GapNonces.{gap-few}
-use Rattle.store_rules.proofs.PollRows.{Narrow, effect-narrow, rows-length}
+use Rattle.store_rules.proofs.PollRows.{Narrow, rows-length, step-narrow}
 use Rattle.store_rules.proofs.RowForms.{row-length}
 use Rattle.trace_totals.specs.Counting.{saysRescue, rescueRows, plus, numbersSaid, counted}
 use Rattle.trace_totals.specs.declared.Counts.{Counts}
@@ -102,19 +102,11 @@ module _ (c : Counts) (form : RowForm) (slice : List ℕ) where
 -- ---- a call
 
 module _ (s : Store) (q : Request) where
-  step-narrow : Each Narrow (rowsOf (step s q .1))
-  unfolding step unless rowsOf
-  step-narrow = go (refusal s q)
-    where
-      go : (o : Option ℕ) → Each Narrow (rowsOf (unless o s (effect s (q .call)) .1))
-      go none = effect-narrow s (q .call)
-      go (some n) = tt
-
   pub adds : (c : Counts) (slice : List ℕ) →
       counted c (isEviction (q .call)) (said (q .form) (step s q .1)) (written (numbersOf (q .form) (step s q .1)) slice)
       ≡ plus c (acceptedIn (step s q .1)) (rescuedIn (step s q .1)) (deadIn (step s q .1)) (evictedIn (single q) (step s q .1))
   unfolding step evictedIn
-  adds c slice = done-adds c (q .form) slice (refusal s q) s (q .call) step-narrow
+  adds c slice = done-adds c (q .form) slice (refusal s q) s (q .call) (step-narrow s q)
 
   pub numbers-said : numbersSaid (said (q .form) (step s q .1)) ≡ length (numbersOf (q .form) (step s q .1))
-  numbers-said = said-numbers (q .form) (step s q .1) step-narrow
+  numbers-said = said-numbers (q .form) (step s q .1) (step-narrow s q)
