@@ -20,14 +20,18 @@ module _ {A : Type 0} (p : A → Bool) where
       go true h = omega arith
       go false h = omega arith
 
-  pub each-keep : (P : A → Type 0) (xs : List A) → Each P xs → Each P (keep p xs)
+  -- what follows from P where the test passes holds of all that is kept
+  pub each-kept : (P Q : A → Type 0) → ((x : A) → p x ≡ true → P x → Q x) → (xs : List A) → Each P xs → Each Q (keep p xs)
   unfolding keep
-  each-keep P [] h = tt
-  each-keep P (x ∷ xs) h = go (p x) (each-keep P xs (h .1))
+  each-kept P Q f [] h = tt
+  each-kept P Q f (x ∷ xs) h = go (p x) refl (each-kept P Q f xs (h .1))
     where
-      go : (b : Bool) → Each P (keep p xs) → Each P (cond b (x ∷ keep p xs) (keep p xs))
-      go true t = (h .0, t)
-      go false t = t
+      go : (b : Bool) → p x ≡ b → Each Q (keep p xs) → Each Q (cond b (x ∷ keep p xs) (keep p xs))
+      go true e t = (f x e (h .0), t)
+      go false e t = t
+
+  pub each-keep : (P : A → Type 0) (xs : List A) → Each P xs → Each P (keep p xs)
+  each-keep P = each-kept P P (λ x e h. h)
 
   -- where nothing is kept, every element fails the test
   pub keep-none : (xs : List A) → keep p xs ≡ [] → (x : A) → List·Memᴰ x xs → p x ≡ false

@@ -8,6 +8,7 @@ use mathlib.Core.Logic.{_⊎_, inl, inr}
 use lib.ListN.{length, drop, getD, drop-of-length-le}
 use lib.Seq.{drop-cons}
 use Rattle.lists.specs.Lists.{keep, Each}
+use Rattle.lists.proofs.ByteOrder.{clash}
 
 module _ {A : Type 0} where
   pub keep-yes : (p : A → Bool) (x : A) (xs : List A) → p x ≡ true → keep p (x ∷ xs) ≡ x ∷ keep p xs
@@ -51,9 +52,31 @@ module _ {A : Type 0} where
   keep-each p [] h = refl
   keep-each p (x ∷ xs) h = rw (h .0, keep-each p xs (h .1))
 
+  -- tests that agree on every element keep the same
+  pub keep-on : (p q : A → Bool) (xs : List A) → Each (λ x. p x ≡ q x) xs → keep p xs ≡ keep q xs
+  unfolding keep
+  keep-on p q [] h = refl
+  keep-on p q (x ∷ xs) h = rw (h .0, keep-on p q xs (h .1))
+
+  -- what passes the narrower of two tests is kept also if the wider one comes first
+  pub keep-keep : (p q : A → Bool) → ((x : A) → q x ≡ true → p x ≡ true) → (xs : List A) → keep q (keep p xs) ≡ keep q xs
+  unfolding keep
+  keep-keep p q h [] = refl
+  keep-keep p q h (x ∷ xs) = go (p x) refl (q x) refl (keep-keep p q h xs)
+    where
+      go : (b : Bool) → p x ≡ b → (c : Bool) → q x ≡ c → keep q (keep p xs) ≡ keep q xs →
+          keep q (cond b (x ∷ keep p xs) (keep p xs)) ≡ cond c (x ∷ keep q xs) (keep q xs)
+      go true e c f ih = rw (f, ih)
+      go false e true f ih = clash (h x f) e
+      go false e false f ih = ih
+
   pub each-map : (P Q : A → Type 0) (xs : List A) → ((x : A) → P x → Q x) → Each P xs → Each Q xs
   each-map P Q [] f h = tt
   each-map P Q (x ∷ xs) f h = (f x (h .0), each-map P Q xs f (h .1))
+
+  pub each-both : (P Q : A → Type 0) (xs : List A) → Each P xs → Each Q xs → Each (λ x. P x × Q x) xs
+  each-both P Q [] h k = tt
+  each-both P Q (x ∷ xs) h k = ((h .0, k .0), each-both P Q xs (h .1) (k .1))
 
   pub each-append : (P : A → Type 0) (xs ys : List A) → Each P (xs ++ ys) → Each P xs × Each P ys
   each-append P [] ys h = (tt, h)

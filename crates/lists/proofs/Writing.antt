@@ -53,7 +53,7 @@ copy-more at l out j h b =
 
 -- ---- one element after another
 
-pub collect-append : {A : Type 0} (f : A → List ℕ) (a b : List A) → collect f (a ++ b) ≡ collect f a ++ collect f b
+pub collect-append : {A B : Type 0} (f : A → List B) (a b : List A) → collect f (a ++ b) ≡ collect f a ++ collect f b
 unfolding collect
 collect-append f [] b = refl
 collect-append f (x ∷ xs) b = rw (collect-append f xs b) (sym (append-assoc (f x) (collect f xs) (collect f b)))

@@ -170,7 +170,7 @@ effect-view s (checkReorg b canonical) = walked-view (reorgRule b canonical) (s 
 effect-view s (checkFinalized n) = walked-view (finalRule n) (s .entries) (s .guards) dead
 
 -- the refusals about room are 2, 5 and 8
-abbrev RoomOnly : Option ℕ → Type 0
+abbrev pub RoomOnly : Option ℕ → Type 0
 RoomOnly none = Unit {0}
 RoomOnly (some n) = aboutRoom (refused n) ≡ true
 
@@ -179,7 +179,7 @@ unfolding when
 when-room true n h = h
 when-room false n h = tt
 
-room-only : (s : Store) (c : Call) (form : RowForm) (numbers bytes : ℕ) → RoomOnly (roomRefusal s c form numbers bytes)
+pub room-only : (s : Store) (c : Call) (form : RowForm) (numbers bytes : ℕ) → RoomOnly (roomRefusal s c form numbers bytes)
 unfolding roomRefusal aboutRoom
 room-only s (push f) form numbers bytes = when-room _ 2 refl
 room-only s (poll a head known content) form numbers bytes = when-room _ 5 refl

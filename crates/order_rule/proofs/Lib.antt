@@ -1,5 +1,7 @@
 pub mod Ideal
 pub mod Invariant
+pub mod Listed
+pub mod Shard
 pub mod Part
 pub mod Whole
 pub mod Owner

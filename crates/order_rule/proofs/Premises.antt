@@ -32,7 +32,7 @@ use Rattle.order_rule.proofs.Sweeps.{order-rule}
 
 -- ---- premises that computation settles
 
-room : (s : Store) (xs : List Item) → keep aboutRoom (answersOf s xs) ≡ [] → RoomFor s xs
+pub room : (s : Store) (xs : List Item) → keep aboutRoom (answersOf s xs) ≡ [] → RoomFor s xs
 unfolding answersOf keep
 room s [] e = tt
 room s (x ∷ xs) e = go (aboutRoom (stepItem s x .1)) e (room (stepItem s x .0) xs)
@@ -43,11 +43,11 @@ room s (x ∷ xs) e = go (aboutRoom (stepItem s x .1)) e (room (stepItem s x .0)
     go false q ih = (refl, ih q)
 
 -- a push by another than the sender that is named for its hash
-misfits : (Bytes → Bytes) → Option Frame → Bool
+unfoldable pub misfits : (Bytes → Bytes) → Option Frame → Bool
 misfits named none = false
 misfits named (some f) = not (eqBytes (named (f .hash)) (f .from))
 
-one-sender : (named : Bytes → Bytes) (cs : List Call) → keep (λ c. misfits named (pushOf c)) cs ≡ [] → OneSender cs
+pub one-sender : (named : Bytes → Bytes) (cs : List Call) → keep (λ c. misfits named (pushOf c)) cs ≡ [] → OneSender cs
 unfolding misfits pushOf
 one-sender named cs e f g m n q = sym (fits f m) ∙ ap named q ∙ fits g n
   where

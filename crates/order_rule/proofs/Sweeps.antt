@@ -1,5 +1,5 @@
 -- The rule of two orders (`Orders.OrderRule`), proved: `order-rule`. A list with sweeps is read as the list of its requests, the
--- polls of its sweeps among them, and of these lists `plain-rule-from` speaks.
+-- polls of its sweeps among them, and its run with room is the ideal run of their calls (`items-view`).
 use Prim.Native.Nat.{ℕ, _*_, _-_, _≤_}
 use native.Mathlib.Omega.{arith}
 use mathlib.Core.Path.{_≡_, refl, sym, ap, ap₂, _∙_, subst}
@@ -17,15 +17,15 @@ use Rattle.store_rules.specs.Frames.{Row}
 use Rattle.store_rules.specs.Poll.{pollRule}
 use Rattle.store_rules.specs.Rules.{onlyOf}
 use Rattle.store_rules.specs.Lookup.{entriesOf}
-use Rattle.store_rules.specs.Store.{Store, Sorted, empty, Call, poll, long, rowWidth, Request, Answer, rows, refused, rowsOf, walked, effect, when, badContent, inputRefusal, roomRefusal, refusal, unless, step, run, calls}
+use Rattle.store_rules.specs.Store.{Store, Sorted, empty, Call, poll, long, rowWidth, Request, Answer, rows, rowsOf, walked, effect, when, badContent, inputRefusal, roomRefusal, refusal, unless, step, run, calls}
 use Rattle.store_rules.specs.Answers.{numbersOf}
 use Rattle.store_rules.specs.Sweeps.{Sweep, pollsFrom, pollsOf, lent, inTurn, pollsIn, badLists, badSum, bigCount, sweepInputRefusal, listedEntries, sweepRoomRefusal, sweepRefusal, sweepEffect, sweepStep, Item, single, sweep, stepItem, runItems}
 use Rattle.store_rules.proofs.PollRows.{few-rows, poll-length}
 use Rattle.store_rules.proofs.Runs.{single-run}
 use Rattle.order_rule.specs.Orders.{pushesOf, shown, transcript, aboutRoom, EnoughRoom, unrefused, callsOf, callsRead, requestsOf, transcriptRead, RoomFor, OrderRuleFrom, OrderRule, PlainIsSpecial}
-use Rattle.order_rule.proofs.Ideal.{Ideal, view, effectᵢ, trailed, seen, effect-view, room-shown}
+use Rattle.order_rule.proofs.Ideal.{Ideal, view, effectᵢ, trailed, seen, effect-view, room-shown, view-run, view-transcript}
 use Rattle.order_rule.proofs.Invariant.{Thinner, thinner-length, thinner-of, trail-thinner}
-use Rattle.order_rule.proofs.Theorem.{plain-rule-from}
+use Rattle.order_rule.proofs.Theorem.{IdealRuns, in-any-order}
 
 -- ---- lists of requests, one after another
 
@@ -198,17 +198,17 @@ items-read s (i ∷ is) h =
       roomy = rw told (each-join Roomy (transcript s (requestsOf s i)) (transcript t rest) (here .roomy) (later .roomy));
     }
 
+-- a run of items with room is the ideal run of the calls that they are read as
+pub items-view : (s : Store) → IdealRuns s callsRead (RoomFor s) (runItems s) (transcriptRead s)
+items-view s is h =
+    let r = items-read s is h in
+    let enough : EnoughRoom s (requestsRead s is) = λ c a k. each-at Roomy (transcript s (requestsRead s is)) (r .roomy) (c, a) k in
+    rw (← calls-read s is, r .runs, r .tells) (view-run s (requestsRead s is) enough, view-transcript s (requestsRead s is) enough)
+
 -- ---- the rule
 
 pub order-rule-from : (s : Store) → Sorted (s .entries) → OrderRuleFrom s
-order-rule-from s h xs ys t one m n =
-    let x = items-read s xs m in
-    let y = items-read s ys n in
-    let r = plain-rule-from s h (requestsRead s xs) (requestsRead s ys) (rw (calls-read s xs, calls-read s ys) t) (rw (calls-read s xs) one) (enough x) (enough y) in
-    (rw (x .runs, y .runs) (r .0), rw (x .tells, y .tells) (rw (calls-read s xs) at (r .1)))
-  where
-    enough : {is : List Item} → ReadAll s is → EnoughRoom s (requestsRead s is)
-    enough {is} r c a k = each-at Roomy (transcript s (requestsRead s is)) (r .roomy) (c, a) k
+order-rule-from s h = in-any-order s h callsRead (RoomFor s) (runItems s) (transcriptRead s) (items-view s)
 
 pub order-rule : OrderRule
 unfolding empty pushesOf

@@ -11,7 +11,8 @@ use Rattle.lists.specs.Lists.{keep}
 use Rattle.lists.proofs.Keeping.{keep-yes, keep-no}
 use Rattle.order_rule.proofs.Ideal.{Ideal, Guards}
 use Rattle.store_rules.specs.Store.{Sorted}
-use Rattle.order_rule.proofs.Part.{mine, mine-is, none-kept, eqKey-refl, only, part}
+use Rattle.order_rule.proofs.Part.{mine, mine-is, none-kept, eqKey-refl, part}
+use Rattle.order_rule.proofs.Shard.{shard, only, ours}
 
 -- the entries of one sender
 abbrev By : Bytes → List Entry → List Entry
@@ -58,7 +59,7 @@ sorted-ext (e ∷ es) (f ∷ fs) h k agree =
 
 module _ (owner : Bytes → Key) where
   pub whole : (s t : Ideal) → Sorted (s .entries) → Sorted (t .entries) → ((k : Key) → part owner k s ≡ part owner k t) → s ≡ t
-  unfolding part only
+  unfolding shard only ours mine
   whole s t h k agree = ap₂ (λ (l : List Entry) (G : Guards). record { entries = l; guards = G })
       (sorted-ext (s .entries) (t .entries) h k (λ a. ap (λ (i : Ideal). i .entries) (agree (sender a))))
       (fun-ext (λ x. go x (eqKey (owner x) (owner x)) (eqKey-refl (owner x)) (ap (λ (i : Ideal). i .guards x) (agree (owner x)))))

@@ -3,7 +3,7 @@
 -- between, uncompared.
 use Prim.Native.Nat.{ℕ}
 use mathlib.Core.Path.{_≡_}
-use mathlib.Core.Bool.{Bool, false, _||_, cond}
+use mathlib.Core.Bool.{Bool, true, false, _||_, cond}
 use mathlib.Core.List.{List, [], _∷_, _++_, List·Memᴰ}
 use mathlib.Core.Option.{Option, none, some}
 use lib.Dec.{eqb}
@@ -61,6 +61,11 @@ keyBy owner (enterTentative h c) = some (owner h)
 keyBy owner (evictSender a) = some (sender a)
 keyBy owner (checkReorg b canonical) = none
 keyBy owner (checkFinalized n) = none
+
+-- whether a call is one for the keys that pass a test: a sender's call is if its key passes, a reorganisation or a finality always is
+unfoldable pub concerns : (Key → Bool) → Option Key → Bool
+concerns p none = true
+concerns p (some k) = p k
 
 -- the premise on pushes: no frame hash is pushed by two senders
 abbrev pub OneSender : List Call → Type 0

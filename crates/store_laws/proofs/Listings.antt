@@ -11,6 +11,7 @@ use Rattle.lists.specs.Bytes.{Bytes, eqBytes, leBytes, Before}
 use Rattle.lists.specs.Lists.{keep, isEmpty, Each, Pairwise, collect, isIn}
 use Rattle.lists.proofs.ByteOrder.{eqBytes-true, clash}
 use Rattle.lists.proofs.Elements.{each-keep, each-join, in-append, in-keep}
+use Rattle.lists.proofs.Keeping.{each-both}
 use Rattle.lists.proofs.Pairs.{pairwise-last}
 use Rattle.store_rules.specs.Frames.{State, tracked, tentative, isTracked, Frame, Entry, degraded}
 use Rattle.store_rules.specs.Poll.{gap}
@@ -90,15 +91,11 @@ none-from a (x ∷ xs) e = go (eqBytes x a) refl e (none-from a xs)
     go true p q ih = absurd (true≢false q)
     go false p q ih = (p, ih q)
 
-each-both : {A : Type 0} (P Q : A → Type 0) (xs : List A) → Each P xs → Each Q xs → Each (λ x. P x × Q x) xs
-each-both P Q [] h k = tt
-each-both P Q (x ∷ xs) h k = ((h .0, k .0), each-both P Q xs (h .1) (k .1))
-
 -- no address listed so far comes after this entry's
 abbrev Listed : List Bytes → Entry → Type 0
 Listed seen e = Each (λ x. leBytes x (e .frame .from) ≡ true) seen
 
-senders-ascending : (seen : List Bytes) (es : List Entry) → Sorted es → Pairwise Before seen → Each (Listed seen) es → Pairwise Before (sendersFrom seen es)
+pub senders-ascending : (seen : List Bytes) (es : List Entry) → Sorted es → Pairwise Before seen → Each (Listed seen) es → Pairwise Before (sendersFrom seen es)
 unfolding sendersFrom
 senders-ascending seen [] s h l = h
 senders-ascending seen (e ∷ es) s h l = go (isAmong (e .frame .from) seen) refl (λ seen′. senders-ascending seen′ es (s .1))

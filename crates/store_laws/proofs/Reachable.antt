@@ -63,7 +63,7 @@ effect-entries s q e h = subst Entries (ap (λ (r : Ideal × Answer). r .0 .entr
 
 -- ---- guards
 
-abbrev OneGuardAHash : List Guard → Type 0
+abbrev pub OneGuardAHash : List Guard → Type 0
 OneGuardAHash = Pairwise (λ (g x : Guard). eqBytes (g .hash) (x .hash) ≡ false)
 
 record Guards (gs : List Guard) : Type 0 where
