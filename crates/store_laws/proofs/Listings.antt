@@ -74,7 +74,7 @@ unfolding withBlock hashIn
 hash-with n tracked bs = refl
 hash-with n (tentative c) bs = hash-put n _ bs
 
-last-hash : (n : ℕ) (bs : List Block) (es : List Entry) → hashOf n (blocksFrom bs es) ≡ lastHash n (hashOf n bs) es
+pub last-hash : (n : ℕ) (bs : List Block) (es : List Entry) → hashOf n (blocksFrom bs es) ≡ lastHash n (hashOf n bs) es
 unfolding blocksFrom lastHash
 last-hash n bs [] = refl
 last-hash n bs (e ∷ es) =

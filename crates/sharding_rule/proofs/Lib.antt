@@ -1,0 +1,10 @@
+pub mod Merging
+pub mod Once
+pub mod Theorem
+pub mod GuardCounts
+pub mod Room
+pub mod Sweeps
+pub mod Splitting
+pub mod Blocks
+pub mod Readings
+pub mod Premises
