@@ -53,10 +53,10 @@ module _ (n : ℕ) where
 
   -- ---- the last hash is that of one shard
 
-  module _ (place : Entry → ℕ) (last : ℕ) (bound : (e : Entry) → place e ≤ last) where
+  module _ (shardOf : Entry → ℕ) (last : ℕ) (bound : (e : Entry) → shardOf e ≤ last) where
     -- the entries of a shard
     abbrev In : ℕ → List Entry → List Entry
-    In m es = keep (λ e. eqb (place e) m) es
+    In m es = keep (λ e. eqb (shardOf e) m) es
 
     -- what is said of all entries is said of those of one shard
     abbrev SaidBy : Option Bytes → (ℕ → Option Bytes) → Type 0
@@ -81,10 +81,10 @@ module _ (n : ℕ) where
       where
         go : Passes (e .standing .state) ⊎ ((h : Bytes) × Says (e .standing .state) h) →
             ((o : Option Bytes) (f : ℕ → Option Bytes) → SaidBy o f → SaidBy (lastHash n o es) (λ m. lastHash n (f m) (In m es))) →
-            SaidBy (lastHash n (hashIn n (e .standing .state) one) es) (λ m. lastHash n (each m) (cond (eqb (place e) m) (e ∷ In m es) (In m es)))
+            SaidBy (lastHash n (hashIn n (e .standing .state) one) es) (λ m. lastHash n (each m) (cond (eqb (shardOf e) m) (e ∷ In m es) (In m es)))
         go (inl same) ih =
             let r = ih one each s in
-            (r .0, r .1, ap (λ (o : Option Bytes). lastHash n o es) (same one) ∙ r .2 ∙ sym (skipped e same (eqb (place e) (r .0)) (each (r .0)) (In (r .0) es)))
+            (r .0, r .1, ap (λ (o : Option Bytes). lastHash n o es) (same one) ∙ r .2 ∙ sym (skipped e same (eqb (shardOf e) (r .0)) (each (r .0)) (In (r .0) es)))
         go (inr (h, says)) ih =
-            let r = ih (some h) (λ m. cond (eqb (place e) m) (some h) (each m)) (place e, bound e, rw (eq-eqb (place e) (place e) refl)) in
-            (r .0, r .1, ap (λ (o : Option Bytes). lastHash n o es) (says one) ∙ r .2 ∙ sym (heard e h says (eqb (place e) (r .0)) (each (r .0)) (In (r .0) es)))
+            let r = ih (some h) (λ m. cond (eqb (shardOf e) m) (some h) (each m)) (shardOf e, bound e, rw (eq-eqb (shardOf e) (shardOf e) refl)) in
+            (r .0, r .1, ap (λ (o : Option Bytes). lastHash n o es) (says one) ∙ r .2 ∙ sym (heard e h says (eqb (shardOf e) (r .0)) (each (r .0)) (In (r .0) es)))

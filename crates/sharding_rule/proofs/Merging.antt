@@ -81,23 +81,23 @@ next-shard n m = go (leb n m) refl (eqb n (suc m)) refl
         beyond : suc m ≤ n → (n ≡ suc m → ⊥) → suc (suc m) ≤ n
         beyond l k = omega arith
 
-module _ {A : Type 0} (at : A → Bytes) (place : Bytes → ℕ) (xs : List A) (h : Ascends at xs) where
+module _ {A : Type 0} (at : A → Bytes) (shardOf : Bytes → ℕ) (xs : List A) (h : Ascends at xs) where
   -- tests of the shard that agree keep the same
-  same : (p q : ℕ → Bool) → ((m : ℕ) → p m ≡ q m) → By at (λ a. p (place a)) xs ≡ By at (λ a. q (place a)) xs
-  same p q e = ap (λ (r : ℕ → Bool). By at (λ a. r (place a)) xs) (fun-ext e)
+  same : (p q : ℕ → Bool) → ((m : ℕ) → p m ≡ q m) → By at (λ a. p (shardOf a)) xs ≡ By at (λ a. q (shardOf a)) xs
+  same p q e = ap (λ (r : ℕ → Bool). By at (λ a. r (shardOf a)) xs) (fun-ext e)
 
-  gathered : (last : ℕ) → gather (merge at) last (λ n. By at (λ a. eqb (place a) n) xs) ≡ By at (λ a. leb (place a) last) xs
+  gathered : (last : ℕ) → gather (merge at) last (λ n. By at (λ a. eqb (shardOf a) n) xs) ≡ By at (λ a. leb (shardOf a) last) xs
   unfolding gather
   gathered zero = same (λ m. eqb m 0) (λ m. leb m 0) first-shard
   gathered (suc last) =
-      ap (λ (l : List A). merge at l (By at (λ a. eqb (place a) (suc last)) xs)) (gathered last)
-      ∙ merge-keep at (λ a. leb (place a) last) (λ a. eqb (place a) (suc last)) (λ a e. apart (place a) (leb-true (place a) last e)) xs h
+      ap (λ (l : List A). merge at l (By at (λ a. eqb (shardOf a) (suc last)) xs)) (gathered last)
+      ∙ merge-keep at (λ a. leb (shardOf a) last) (λ a. eqb (shardOf a) (suc last)) (λ a e. apart (shardOf a) (leb-true (shardOf a) last e)) xs h
       ∙ same (λ m. leb m last || eqb m (suc last)) (λ m. leb m (suc last)) (λ m. next-shard m last)
     where
       apart : (n : ℕ) → n ≤ last → eqb n (suc last) ≡ false
       apart n l = ne-eqb n (suc last) (λ e. omega arith)
 
-  pub gather-keep : (last : ℕ) → ((a : Bytes) → place a ≤ last) → gather (merge at) last (λ n. By at (λ a. eqb (place a) n) xs) ≡ xs
+  pub gather-keep : (last : ℕ) → ((a : Bytes) → shardOf a ≤ last) → gather (merge at) last (λ n. By at (λ a. eqb (shardOf a) n) xs) ≡ xs
   gather-keep last bound =
       gathered last
-      ∙ keep-each (λ x. leb (place (at x)) last) xs (each-of (λ x. leb (place (at x)) last ≡ true) xs (λ x m. le-leb (place (at x)) last (bound (at x))))
+      ∙ keep-each (λ x. leb (shardOf (at x)) last) xs (each-of (λ x. leb (shardOf (at x)) last ≡ true) xs (λ x m. le-leb (shardOf (at x)) last (bound (at x))))

@@ -110,8 +110,8 @@ senders-ascend s h = before-ascends (sendersFrom [] (s .entries)) (senders-ascen
 
 -- ---- the rule
 
-module _ (owner : Bytes → Key) (place : Key → ℕ) (last : ℕ) (bound : (k : Key) → place k ≤ last) (sent : ℕ → List Item) (one : Store) (lines : List (Call × Answer))
-    (s : Sharded owner place last sent one lines) where
+module _ (owner : Bytes → Key) (shardOf : Key → ℕ) (last : ℕ) (bound : (k : Key) → shardOf k ≤ last) (sent : ℕ → List Item) (one : Store) (lines : List (Call × Answer))
+    (s : Sharded owner shardOf last sent one lines) where
   abbrev At : ℕ → Store
   At n = runItems empty (sent n)
 
@@ -129,52 +129,52 @@ module _ (owner : Bytes → Key) (place : Key → ℕ) (last : ℕ) (bound : (k 
   senders-merged : senders one ≡ gather (merge (λ a. a)) last (λ n. senders (At n))
   unfolding senders keep
   senders-merged =
-      sym (gather-same (merge (λ a. a)) last (λ n. senders (At n)) (λ n. By (λ a. a) (λ a. eqb (place (sender a)) n) (senders one))
-      (λ n l. ap (λ (es : List Entry). sendersFrom [] es) (s .held n l) ∙ senders-kept (λ a. eqb (place (sender a)) n) [] (one .entries))
-      ∙ gather-keep (λ a. a) (λ a. place (sender a)) (senders one) (senders-ascend one (s .sorted)) last (λ a. bound (sender a)))
+      sym (gather-same (merge (λ a. a)) last (λ n. senders (At n)) (λ n. By (λ a. a) (λ a. eqb (shardOf (sender a)) n) (senders one))
+      (λ n l. ap (λ (es : List Entry). sendersFrom [] es) (s .held n l) ∙ senders-kept (λ a. eqb (shardOf (sender a)) n) [] (one .entries))
+      ∙ gather-keep (λ a. a) (λ a. shardOf (sender a)) (senders one) (senders-ascend one (s .sorted)) last (λ a. bound (sender a)))
 
-  found : (h : Bytes) → lookup (hasHash h) (one .entries) ≡ lookup (hasHash h) (At (place (owner h)) .entries)
+  found : (h : Bytes) → lookup (hasHash h) (one .entries) ≡ lookup (hasHash h) (At (shardOf (owner h)) .entries)
   found h =
-      sym (ap (lookup (hasHash h)) (s .held (place (owner h)) (bound (owner h)))
-      ∙ lookup-keep (hasHash h) (λ a. eqb (place (sender a)) (place (owner h))) (one .entries)
-      (each-map _ _ (one .entries) (λ e o q. eq-eqb _ _ (ap place (sym o ∙ ap owner (eqBytes-true (e .frame .hash) h q)))) (s .owned)))
+      sym (ap (lookup (hasHash h)) (s .held (shardOf (owner h)) (bound (owner h)))
+      ∙ lookup-keep (hasHash h) (λ a. eqb (shardOf (sender a)) (shardOf (owner h))) (one .entries)
+      (each-map _ _ (one .entries) (λ e o q. eq-eqb _ _ (ap shardOf (sym o ∙ ap owner (eqBytes-true (e .frame .hash) h q)))) (s .owned)))
 
   block-hash : (block : ℕ) → (n : ℕ) × (n ≤ last) × (hashOf block (tentativeBlocks one) ≡ hashOf block (tentativeBlocks (At n)))
   unfolding tentativeBlocks hashOf
   block-hash block =
-      let r = last-of-one block (λ e. place (sender (e .frame .from))) last (λ e. bound (sender (e .frame .from))) none (λ n. none) (0, omega arith, refl) (one .entries) in
+      let r = last-of-one block (λ e. shardOf (sender (e .frame .from))) last (λ e. bound (sender (e .frame .from))) none (λ n. none) (0, omega arith, refl) (one .entries) in
       (r .0, r .1, last-hash block [] (one .entries) ∙ r .2 ∙ sym (last-hash block [] (At (r .0) .entries) ∙ ap (lastHash block none) (s .held (r .0) (r .1))))
 
   block-listed : (block : ℕ) → hashOf block (tentativeBlocks one) ≡ none → (n : ℕ) → n ≤ last → hashOf block (tentativeBlocks (At n)) ≡ none
   unfolding tentativeBlocks hashOf
   block-listed block e n l =
       last-hash block [] (At n .entries) ∙ ap (lastHash block none) (s .held n l)
-      ∙ none-last block (λ x. eqb (place (sender (x .frame .from))) n) none (one .entries) (sym (last-hash block [] (one .entries)) ∙ e)
+      ∙ none-last block (λ x. eqb (shardOf (sender (x .frame .from))) n) none (one .entries) (sym (last-hash block [] (one .entries)) ∙ e)
 
-  own : (a : Bytes) → entriesOf a (one .entries) ≡ entriesOf a (At (place (sender a)) .entries)
+  own : (a : Bytes) → entriesOf a (one .entries) ≡ entriesOf a (At (shardOf (sender a)) .entries)
   unfolding entriesOf
   own a =
-      sym (ap (keep (λ e. eqBytes (e .frame .from) a)) (s .held (place (sender a)) (bound (sender a)))
-      ∙ keep-keep (λ e. eqb (place (sender (e .frame .from))) (place (sender a))) (λ e. eqBytes (e .frame .from) a)
-      (λ e q. eq-eqb _ _ (ap (λ (b : Bytes). place (sender b)) (eqBytes-true (e .frame .from) a q))) (one .entries))
+      sym (ap (keep (λ e. eqBytes (e .frame .from) a)) (s .held (shardOf (sender a)) (bound (sender a)))
+      ∙ keep-keep (λ e. eqb (shardOf (sender (e .frame .from))) (shardOf (sender a))) (λ e. eqBytes (e .frame .from) a)
+      (λ e q. eq-eqb _ _ (ap (λ (b : Bytes). shardOf (sender b)) (eqBytes-true (e .frame .from) a q))) (one .entries))
 
   abbrev GuardedIn : Store → Entry → Bool
   GuardedIn t e = isGuarded (guardOf (e .frame .hash) (t .guards))
 
-  same-guard : (a : Bytes) (e : Entry) → eqBytes (e .frame .from) a ≡ true → owner (e .frame .hash) ≡ sender (e .frame .from) → GuardedIn one e ≡ GuardedIn (At (place (sender a))) e
+  same-guard : (a : Bytes) (e : Entry) → eqBytes (e .frame .from) a ≡ true → owner (e .frame .hash) ≡ sender (e .frame .from) → GuardedIn one e ≡ GuardedIn (At (shardOf (sender a))) e
   same-guard a e q o =
-      ap isGuarded (sym (s .guards (place (sender a)) (bound (sender a)) (e .frame .hash)
-      ∙ ap (λ (b : Bool). cond b (guardOf (e .frame .hash) (one .guards)) none) (eq-eqb _ _ (ap place (o ∙ ap sender (eqBytes-true (e .frame .from) a q))))))
+      ap isGuarded (sym (s .guards (shardOf (sender a)) (bound (sender a)) (e .frame .hash)
+      ∙ ap (λ (b : Bool). cond b (guardOf (e .frame .hash) (one .guards)) none) (eq-eqb _ _ (ap shardOf (o ∙ ap sender (eqBytes-true (e .frame .from) a q))))))
 
-  guarded : (a : Bytes) → hasGuardForSender a one ≡ hasGuardForSender a (At (place (sender a)))
+  guarded : (a : Bytes) → hasGuardForSender a one ≡ hasGuardForSender a (At (shardOf (sender a)))
   unfolding hasGuardForSender entriesOf
   guarded a =
       ap (λ (l : List Entry). not (isEmpty l))
-      (keep-on (GuardedIn one) (GuardedIn (At (place (sender a)))) (entriesOf a (one .entries))
-      (each-kept (λ e. eqBytes (e .frame .from) a) _ (λ e. GuardedIn one e ≡ GuardedIn (At (place (sender a))) e) (same-guard a) (one .entries) (s .owned))
-      ∙ ap (keep (GuardedIn (At (place (sender a))))) (own a))
+      (keep-on (GuardedIn one) (GuardedIn (At (shardOf (sender a)))) (entriesOf a (one .entries))
+      (each-kept (λ e. eqBytes (e .frame .from) a) _ (λ e. GuardedIn one e ≡ GuardedIn (At (shardOf (sender a))) e) (same-guard a) (one .entries) (s .owned))
+      ∙ ap (keep (GuardedIn (At (shardOf (sender a))))) (own a))
 
-  reads : Reads owner place last At one
+  reads : Reads owner shardOf last At one
   unfolding stateOf expectedBoundary len tentativeCount poolKnownGap
   reads = record {
     state = λ h. ap (Option·map stateIn) (found h);

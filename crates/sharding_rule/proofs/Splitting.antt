@@ -47,46 +47,46 @@ item-view : (s : Store) (i : Item) → aboutRoom (stepItem s i .1) ≡ false →
 unfolding callsRead collect runItems
 item-view s i r = ap (runᵢ (view s)) (sym (append-nil (callsOf i))) ∙ items-view s (i ∷ []) (r, tt) .0
 
-module _ (owner : Bytes → Key) (place : Key → ℕ) (n : ℕ) where
+module _ (owner : Bytes → Key) (shardOf : Key → ℕ) (n : ℕ) where
   abbrev KeyOf : Call → Option Key
   KeyOf = keyBy owner
 
   abbrev Of : Key → Bool
-  Of k = eqb (place k) n
+  Of k = eqb (shardOf k) n
 
   abbrev OfSender : Bytes → Bool
   OfSender a = Of (sender a)
 
   abbrev For : Item → List Item
-  For = itemFor KeyOf place n
+  For = itemFor KeyOf shardOf n
 
   -- the shard's part of a sweep
   abbrev PartOf : Sweep → Sweep
   PartOf w = sweepOf OfSender (w .senders) (w .heads) (w .counts) (w .nonces) (w .numbers)
 
-  goes-by-sender : (a : Bytes) (head : ℕ) (known : List ℕ) → goesTo KeyOf place n (poll a head known none) ≡ OfSender a
+  goes-by-sender : (a : Bytes) (head : ℕ) (known : List ℕ) → goesTo KeyOf shardOf n (poll a head known none) ≡ OfSender a
   unfolding goesTo concerns keyBy
   goes-by-sender a head known = refl
 
   module _ (ours all : List Entry) (own : (a : Bytes) → OfSender a ≡ true → entriesOf a ours ≡ entriesOf a all) (w : Sweep) (e : sweepInputRefusal w ≡ none) where
-    part-of : Part OfSender (goesTo KeyOf place n) goes-by-sender ours all own (w .numbers) (w .senders) (w .heads) (w .counts) (w .nonces) (PartOf w)
-    part-of = part OfSender (goesTo KeyOf place n) goes-by-sender ours all own (w .numbers) (w .senders) (w .heads) (w .counts) (w .nonces) (accepted w e .1)
+    part-of : Part OfSender (goesTo KeyOf shardOf n) goes-by-sender ours all own (w .numbers) (w .senders) (w .heads) (w .counts) (w .nonces) (PartOf w)
+    part-of = part OfSender (goesTo KeyOf shardOf n) goes-by-sender ours all own (w .numbers) (w .senders) (w .heads) (w .counts) (w .nonces) (accepted w e .1)
 
     part-accepted : sweepInputRefusal (PartOf w) ≡ none
     part-accepted = accepts (PartOf w) (omega (arith, part-of .fewer, accepted w e .0)) (part-of .fits)
 
   -- ---- what a shard is sent is read as its calls
 
-  item-is-read : (i : Item) → callsRead (For i) ≡ callsFor KeyOf place n (callsOf i)
+  item-is-read : (i : Item) → callsRead (For i) ≡ callsFor KeyOf shardOf n (callsOf i)
   unfolding callsRead collect callsOf itemFor keep unrefused
-  item-is-read (single q) = go (goesTo KeyOf place n (q .call))
+  item-is-read (single q) = go (goesTo KeyOf shardOf n (q .call))
     where
       go : (b : Bool) → callsRead (cond b (single q ∷ []) []) ≡ cond b (q .call ∷ []) []
       go true = refl
       go false = refl
   item-is-read (sweep w) = go (sweepInputRefusal w) refl
     where
-      go : (o : Option ℕ) → sweepInputRefusal w ≡ o → callsRead (unrefused o (sweep (PartOf w) ∷ [])) ≡ callsFor KeyOf place n (unrefused o (pollsOf w))
+      go : (o : Option ℕ) → sweepInputRefusal w ≡ o → callsRead (unrefused o (sweep (PartOf w) ∷ [])) ≡ callsFor KeyOf shardOf n (unrefused o (pollsOf w))
       go (some m) e = refl
       go none e = rw (part-accepted [] [] (λ a y. refl) w e, append-nil (pollsOf (PartOf w))) (part-of [] [] (λ a y. refl) w e .polls)
 
@@ -114,9 +114,9 @@ module _ (owner : Bytes → Key) (place : Key → ℕ) (n : ℕ) where
 
     item-room : (i : Item) → aboutRoom (stepItem s i .1) ≡ false → RoomFor t (For i)
     unfolding itemFor goesTo stepItem unrefused
-    item-room (single q) r = go (goesTo KeyOf place n (q .call)) refl
+    item-room (single q) r = go (goesTo KeyOf shardOf n (q .call)) refl
       where
-        go : (b : Bool) → goesTo KeyOf place n (q .call) ≡ b → RoomFor t (cond b (single q ∷ []) [])
+        go : (b : Bool) → goesTo KeyOf shardOf n (q .call) ≡ b → RoomFor t (cond b (single q ∷ []) [])
         go true y = (step-room owner Of s t h is d q y r, tt)
         go false y = tt
     item-room (sweep w) r = go (sweepInputRefusal w) refl
@@ -142,13 +142,13 @@ module _ (owner : Bytes → Key) (place : Key → ℕ) (n : ℕ) where
   one-guard t r = subst (λ (s : Store). OneGuardAHash (s .guards)) (r .1) (every-run (r .0) .oneGuard)
 
   rooms : (s t : Store) → Good owner (view s) → view t ≡ shard owner Of (view s) → Reached t → (is : List Item) → Each (OwnedCall owner) (callsRead is) → RoomFor s is →
-      RoomFor t (itemsFor KeyOf place n is)
+      RoomFor t (itemsFor KeyOf shardOf n is)
   unfolding callsRead collect itemsFor
   rooms s t h e r [] o room = tt
   rooms s t h e r (i ∷ is) o room =
       let owned = each-append (OwnedCall owner) (callsOf i) (callsRead is) o in
       let one = one-guard t r in
-      room-append t (For i) (itemsFor KeyOf place n is) (item-room s t h e one i (room .0))
+      room-append t (For i) (itemsFor KeyOf shardOf n is) (item-room s t h e one i (room .0))
       (rooms (stepItem s i .0) (runItems t (For i)) (subst (Good owner) (item-view s i (room .0)) (run-good owner (view s) (callsOf i) (owned .0) h))
       (item-shard s t h e one i (owned .0) (room .0))
       (r .0 ++ For i, items-append empty (r .0) (For i) ∙ ap (λ (x : Store). runItems x (For i)) (r .1)) is (owned .1) (room .1))
@@ -157,22 +157,22 @@ module _ (owner : Bytes → Key) (place : Key → ℕ) (n : ℕ) where
 
 pub split-is-read : SplitIsRead
 unfolding callsRead collect itemsFor keep
-split-is-read owner place n [] = refl
-split-is-read owner place n (i ∷ is) =
-    collect-append callsOf (itemFor (keyBy owner) place n i) (itemsFor (keyBy owner) place n is)
-    ∙ ap₂ _++_ (item-is-read owner place n i) (split-is-read owner place n is)
-    ∙ sym (keep-append (goesTo (keyBy owner) place n) (callsOf i) (callsRead is))
+split-is-read owner shardOf n [] = refl
+split-is-read owner shardOf n (i ∷ is) =
+    collect-append callsOf (itemFor (keyBy owner) shardOf n i) (itemsFor (keyBy owner) shardOf n is)
+    ∙ ap₂ _++_ (item-is-read owner shardOf n i) (split-is-read owner shardOf n is)
+    ∙ sym (keep-append (goesTo (keyBy owner) shardOf n) (callsOf i) (callsRead is))
 
 pub splitting-rule : SplittingRule
 unfolding runItems
-splitting-rule is one room place last bound = (
+splitting-rule is one room shardOf last bound = (
   split-room,
-  sharding-rule (callsRead is) one place last (λ n. itemsFor (keyBy owner) place n is) bound (λ n l. split-is-read owner place n is) (λ n l. split-room n) .1 is refl room,
+  sharding-rule (callsRead is) one shardOf last (λ n. itemsFor (keyBy owner) shardOf n is) bound (λ n l. split-is-read owner shardOf n is) (λ n l. split-room n) .1 is refl room,
 )
   where
     owner : Bytes → Key
     owner = ownerIn (callsRead is)
 
-    split-room : (n : ℕ) → RoomFor empty (itemsFor (keyBy owner) place n is)
-    split-room n = rooms owner place n empty empty (good-empty owner) (empty-shard owner (λ k. eqb (place k) n)) ([], refl) is
+    split-room : (n : ℕ) → RoomFor empty (itemsFor (keyBy owner) shardOf n is)
+    split-room n = rooms owner shardOf n empty empty (good-empty owner) (empty-shard owner (λ k. eqb (shardOf k) n)) ([], refl) is
         (each-of (OwnedCall owner) (callsRead is) (owned-call (callsRead is) one)) room

@@ -78,13 +78,13 @@ module _ (owner : Bytes → Key) where
 
 -- ---- an ideal run and its shards
 
-module _ (owner : Bytes → Key) (place : Key → ℕ) (last : ℕ) (bound : (k : Key) → place k ≤ last) where
+module _ (owner : Bytes → Key) (shardOf : Key → ℕ) (last : ℕ) (bound : (k : Key) → shardOf k ≤ last) where
   abbrev KeyOf : Call → Option Key
   KeyOf = keyBy owner
 
   -- the keys of a shard
   abbrev Of : ℕ → Key → Bool
-  Of n k = eqb (place k) n
+  Of n k = eqb (shardOf k) n
 
   abbrev OwnedCalls : List Call → Type 0
   OwnedCalls = Each (OwnedCall owner)
@@ -94,11 +94,11 @@ module _ (owner : Bytes → Key) (place : Key → ℕ) (last : ℕ) (bound : (k 
   PartOf at l n = By at (λ a. Of n (sender a)) l
 
   parts-merge : {A : Type 0} (at : A → Bytes) (l : List A) → Ascends at l → gather (merge at) last (PartOf at l) ≡ l
-  parts-merge at l h = gather-keep at (λ a. place (sender a)) l h last (λ a. bound (sender a))
+  parts-merge at l h = gather-keep at (λ a. shardOf (sender a)) l h last (λ a. bound (sender a))
 
   -- what the shards tell of an answer, merged, is the answer
   answer-merges : (t : Ideal) → Good owner t → (c : Call) →
-      mergedAnswer KeyOf place last (KeyOf c) (λ n. ourAnswer owner (Of n) (KeyOf c) (shown (stepᵢ t c .1))) ≡ shown (stepᵢ t c .1)
+      mergedAnswer KeyOf shardOf last (KeyOf c) (λ n. ourAnswer owner (Of n) (KeyOf c) (shown (stepᵢ t c .1))) ≡ shown (stepᵢ t c .1)
   unfolding keyBy stepᵢ unlessᵢ inputRefusal effectᵢ trailed shown mergedAnswer ourAnswer ourList ours
   answer-merges t h (push f) = refl
   answer-merges t h (poll a head known content) = refl
@@ -114,11 +114,11 @@ module _ (owner : Bytes → Key) (place : Key → ℕ) (last : ℕ) (bound : (k 
       gather-dead last (PartOf (λ d. d .frame .from) l)
       ∙ ap dead (parts-merge (λ d. d .frame .from) l (trail-ascends deadOf (finalRule m) (about-final m) (t .entries) (t .guards) (h .sorted)))
 
-  merged : (t : Ideal) → Good owner t → (cs : List Call) → OwnedCalls cs → MergedFrom KeyOf place last (λ n. ourLines owner (Of n) (transcriptᵢ t cs)) (transcriptᵢ t cs)
+  merged : (t : Ideal) → Good owner t → (cs : List Call) → OwnedCalls cs → MergedFrom KeyOf shardOf last (λ n. ourLines owner (Of n) (transcriptᵢ t cs)) (transcriptᵢ t cs)
   unfolding transcriptᵢ ourLines goesTo
   merged t h [] o = nothing (λ n l. refl)
   merged t h (c ∷ cs) o =
-      subst (λ (a : Answer). MergedFrom KeyOf place last (λ n. ourLines owner (Of n) ((c, shown (stepᵢ t c .1)) ∷ rest)) ((c, a) ∷ rest)) (answer-merges t h c)
+      subst (λ (a : Answer). MergedFrom KeyOf shardOf last (λ n. ourLines owner (Of n) ((c, shown (stepᵢ t c .1)) ∷ rest)) ((c, a) ∷ rest)) (answer-merges t h c)
       (next c (λ n. ourAnswer owner (Of n) (KeyOf c) (shown (stepᵢ t c .1))) (λ n l. refl) (merged (stepᵢ t c .0) (step-good owner t c (o .0) h) cs (o .1)))
     where
       rest : List (Call × Answer)
@@ -126,7 +126,7 @@ module _ (owner : Bytes → Key) (place : Key → ℕ) (last : ℕ) (bound : (k 
 
   -- ---- runs from an empty store
 
-  module _ (cs : List Call) (owned : OwnedCalls cs) (sent : ℕ → List Item) (read : (n : ℕ) → n ≤ last → callsRead (sent n) ≡ callsFor KeyOf place n cs)
+  module _ (cs : List Call) (owned : OwnedCalls cs) (sent : ℕ → List Item) (read : (n : ℕ) → n ≤ last → callsRead (sent n) ≡ callsFor KeyOf shardOf n cs)
       (room : (n : ℕ) → n ≤ last → RoomFor empty (sent n)) where
     -- the one ideal run
     abbrev One : Ideal
@@ -150,11 +150,11 @@ module _ (owner : Bytes → Key) (place : Key → ℕ) (last : ℕ) (bound : (k 
         ∙ shard-transcript owner (Of n) (view empty) (good-empty owner) cs owned
 
     -- one store whose run is the ideal one
-    conclude : (one : Store) (lines : List (Call × Answer)) → One ≡ view one → Lines ≡ lines → Sharded owner place last sent one lines
+    conclude : (one : Store) (lines : List (Call × Answer)) → One ≡ view one → Lines ≡ lines → Sharded owner shardOf last sent one lines
     unfolding view shard only ours
     conclude one lines e f = record {
-      answers = merged-as KeyOf place last bound lines-are
-          (subst (MergedFrom KeyOf place last (λ n. ourLines owner (Of n) Lines)) f (merged (view empty) (good-empty owner) cs owned));
+      answers = merged-as KeyOf shardOf last bound lines-are
+          (subst (MergedFrom KeyOf shardOf last (λ n. ourLines owner (Of n) Lines)) f (merged (view empty) (good-empty owner) cs owned));
       sorted = good .sorted;
       owned = good .owned;
       held = held;
@@ -174,10 +174,10 @@ module _ (owner : Bytes → Key) (place : Key → ℕ) (last : ℕ) (bound : (k 
 -- ---- the rule
 
 shardable : (owner : Bytes → Key) (cs : List Call) → Each (OwnedCall owner) cs → Shardable owner cs
-shardable owner cs owned place last sent bound read room = (
-  conclude owner place last bound cs owned sent read room (unlimitedRun empty cs) (unlimitedTranscript empty cs) (unlimited-run empty cs) (unlimited-transcript empty cs),
+shardable owner cs owned shardOf last sent bound read room = (
+  conclude owner shardOf last bound cs owned sent read room (unlimitedRun empty cs) (unlimitedTranscript empty cs) (unlimited-run empty cs) (unlimited-transcript empty cs),
   λ is e h. let r = items-view empty is h in
-      conclude owner place last bound cs owned sent read room (runItems empty is) (transcriptRead empty is)
+      conclude owner shardOf last bound cs owned sent read room (runItems empty is) (transcriptRead empty is)
       (ap (runᵢ (view empty)) (sym e) ∙ r .0) (ap (transcriptᵢ (view empty)) (sym e) ∙ r .1),
 )
 

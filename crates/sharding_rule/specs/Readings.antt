@@ -15,11 +15,11 @@ use Rattle.store_laws.specs.Listings.{hashOf}
 use Rattle.sharding_rule.specs.Merging.{merge, gather}
 use Rattle.sharding_rule.specs.Shards.{unlimitedStep, Sharded}
 
-pub record Reads (owner : Bytes → Key) (place : Key → ℕ) (last : ℕ) (stores : ℕ → Store) (one : Store) : Type 0 where
-  pub state : (h : Bytes) → stateOf h one ≡ stateOf h (stores (place (owner h)))
-  pub expectedBoundary : (h : Bytes) → expectedBoundary h one ≡ expectedBoundary h (stores (place (owner h)))
-  pub poolKnownGap : (a : Bytes) (head pendingCount : ℕ) → poolKnownGap a head pendingCount one ≡ poolKnownGap a head pendingCount (stores (place (sender a)))
-  pub hasGuardForSender : (a : Bytes) → hasGuardForSender a one ≡ hasGuardForSender a (stores (place (sender a)))
+pub record Reads (owner : Bytes → Key) (shardOf : Key → ℕ) (last : ℕ) (stores : ℕ → Store) (one : Store) : Type 0 where
+  pub state : (h : Bytes) → stateOf h one ≡ stateOf h (stores (shardOf (owner h)))
+  pub expectedBoundary : (h : Bytes) → expectedBoundary h one ≡ expectedBoundary h (stores (shardOf (owner h)))
+  pub poolKnownGap : (a : Bytes) (head pendingCount : ℕ) → poolKnownGap a head pendingCount one ≡ poolKnownGap a head pendingCount (stores (shardOf (sender a)))
+  pub hasGuardForSender : (a : Bytes) → hasGuardForSender a one ≡ hasGuardForSender a (stores (shardOf (sender a)))
   pub senders : senders one ≡ gather (merge (λ a. a)) last (λ n. senders (stores n))
   -- the hash of a block is one that a shard has for it, and a block that a shard lists is listed
   pub blockHash : (block : ℕ) → (n : ℕ) × (n ≤ last) × (hashOf block (tentativeBlocks one) ≡ hashOf block (tentativeBlocks (stores n)))
@@ -34,8 +34,8 @@ TotalRule = (s : Store) (f : Frame) → inputRefusal (push f) ≡ none → unlim
 -- of shards that are one store, as the sharding rule says
 abbrev pub ReadsRule : Type 0
 ReadsRule =
-    (owner : Bytes → Key) (place : Key → ℕ) (last : ℕ) →
-    ((k : Key) → place k ≤ last) →
+    (owner : Bytes → Key) (shardOf : Key → ℕ) (last : ℕ) →
+    ((k : Key) → shardOf k ≤ last) →
     (sent : ℕ → List Item) (one : Store) (lines : List (Call × Answer)) →
-    Sharded owner place last sent one lines →
-    Reads owner place last (λ n. runItems empty (sent n)) one
+    Sharded owner shardOf last sent one lines →
+    Reads owner shardOf last (λ n. runItems empty (sent n)) one

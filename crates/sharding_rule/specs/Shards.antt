@@ -32,10 +32,10 @@ unlimitedTranscript s (c ∷ cs) = (c, shown (unlimitedStep s c .1)) ∷ unlimit
 
 -- ---- the shards 0 to `last`, told each call's key or none, and the shard of each key
 
-module _ (keyOf : Call → Option Key) (place : Key → ℕ) where
+module _ (keyOf : Call → Option Key) (shardOf : Key → ℕ) where
   -- a sender's call goes to the sender's shard, a reorganisation or a finality to every shard
   unfoldable pub goesTo : ℕ → Call → Bool
-  goesTo n c = concerns (λ k. eqb (place k) n) (keyOf c)
+  goesTo n c = concerns (λ k. eqb (shardOf k) n) (keyOf c)
 
   -- the calls that go to a shard, in their order
   abbrev pub callsFor : ℕ → List Call → List Call
@@ -44,7 +44,7 @@ module _ (keyOf : Call → Option Key) (place : Key → ℕ) where
   module _ (last : ℕ) where
     -- what the shards answer to one call
     unfoldable pub mergedAnswer : Option Key → (ℕ → Answer) → Answer
-    mergedAnswer (some k) given = given (place k)
+    mergedAnswer (some k) given = given (shardOf k)
     mergedAnswer none given = gather joinAnswers last given
 
     -- One transcript, put together from those of the shards: each call has the next answer of the shard that it goes to, or, if it
@@ -59,41 +59,41 @@ module _ (keyOf : Call → Option Key) (place : Key → ℕ) where
 -- the shards' transcripts settle the one that is put together from them
 abbrev pub MergedOnce : Type 0
 MergedOnce =
-    (keyOf : Call → Option Key) (place : Key → ℕ) (last : ℕ) →
-    ((k : Key) → place k ≤ last) →
+    (keyOf : Call → Option Key) (shardOf : Key → ℕ) (last : ℕ) →
+    ((k : Key) → shardOf k ≤ last) →
     (told : ℕ → List (Call × Answer)) (xs ys : List (Call × Answer)) →
     map (λ t. t .0) xs ≡ map (λ t. t .0) ys →
-    MergedFrom keyOf place last told xs →
-    MergedFrom keyOf place last told ys →
+    MergedFrom keyOf shardOf last told xs →
+    MergedFrom keyOf shardOf last told ys →
     xs ≡ ys
 
 -- ---- the rule
 
 -- What one store holds and answers is what shards 0 to `last` hold and answer, each of which runs what it is sent from an empty store.
-pub record Sharded (owner : Bytes → Key) (place : Key → ℕ) (last : ℕ) (sent : ℕ → List Item) (one : Store) (lines : List (Call × Answer)) : Type 0 where
+pub record Sharded (owner : Bytes → Key) (shardOf : Key → ℕ) (last : ℕ) (sent : ℕ → List Item) (one : Store) (lines : List (Call × Answer)) : Type 0 where
   -- every answer but a push's total
-  pub answers : MergedFrom (keyBy owner) place last (λ n. transcriptRead empty (sent n)) lines
+  pub answers : MergedFrom (keyBy owner) shardOf last (λ n. transcriptRead empty (sent n)) lines
   -- the entries are in walk order, and each frame's sender is the owner of its hash
   pub sorted : Sorted (one .entries)
   pub owned : Each (λ e. owner (e .frame .hash) ≡ sender (e .frame .from)) (one .entries)
   -- a shard holds the frames of its senders
-  pub held : (n : ℕ) → n ≤ last → runItems empty (sent n) .entries ≡ keep (λ e. eqb (place (sender (e .frame .from))) n) (one .entries)
+  pub held : (n : ℕ) → n ≤ last → runItems empty (sent n) .entries ≡ keep (λ e. eqb (shardOf (sender (e .frame .from))) n) (one .entries)
   -- so the entries are the shards', merged in walk order
   pub entries : one .entries ≡ gather (merge (λ (e : Entry). e .frame .from)) last (λ n. runItems empty (sent n) .entries)
   -- a hash's guard is with the shard of its owner, and with no other
-  pub guards : (n : ℕ) → n ≤ last → (h : Bytes) → guardOf h (runItems empty (sent n) .guards) ≡ cond (eqb (place (owner h)) n) (guardOf h (one .guards)) none
+  pub guards : (n : ℕ) → n ≤ last → (h : Bytes) → guardOf h (runItems empty (sent n) .guards) ≡ cond (eqb (shardOf (owner h)) n) (guardOf h (one .guards)) none
 
 -- Keys are split over shards 0 to `last` in any way. Each shard is sent calls and sweeps that are read as its calls, lent any slices,
 -- and is not refused for want of room. Then the shards are one store without limits of room; and, where the store of document 01 has
 -- room for all, they are that store.
 abbrev pub Shardable : (Bytes → Key) → List Call → Type 0
 Shardable owner cs =
-    (place : Key → ℕ) (last : ℕ) (sent : ℕ → List Item) →
-    ((k : Key) → place k ≤ last) →
-    ((n : ℕ) → n ≤ last → callsRead (sent n) ≡ callsFor (keyBy owner) place n cs) →
+    (shardOf : Key → ℕ) (last : ℕ) (sent : ℕ → List Item) →
+    ((k : Key) → shardOf k ≤ last) →
+    ((n : ℕ) → n ≤ last → callsRead (sent n) ≡ callsFor (keyBy owner) shardOf n cs) →
     ((n : ℕ) → n ≤ last → RoomFor empty (sent n)) →
-    Sharded owner place last sent (unlimitedRun empty cs) (unlimitedTranscript empty cs)
-    × ((is : List Item) → callsRead is ≡ cs → RoomFor empty is → Sharded owner place last sent (runItems empty is) (transcriptRead empty is))
+    Sharded owner shardOf last sent (unlimitedRun empty cs) (unlimitedTranscript empty cs)
+    × ((is : List Item) → callsRead is ≡ cs → RoomFor empty is → Sharded owner shardOf last sent (runItems empty is) (transcriptRead empty is))
 
 -- of every list of calls in which no frame hash is pushed by two senders, with the owners of the order rule
 abbrev pub ShardingRule : Type 0

@@ -31,12 +31,12 @@ sweepOf p senders (h ∷ hs) (c ∷ cs) nonces numbers =
 
 -- ---- what a shard is sent
 
-module _ (keyOf : Call → Option Key) (place : Key → ℕ) (n : ℕ) where
+module _ (keyOf : Call → Option Key) (shardOf : Key → ℕ) (n : ℕ) where
   -- a call, if it goes to the shard; a sweep as that of the shard's senders, lent as much, or not at all if it is refused for its inputs
   unfoldable pub itemFor : Item → List Item
-  itemFor (single q) = cond (goesTo keyOf place n (q .call)) (single q ∷ []) []
+  itemFor (single q) = cond (goesTo keyOf shardOf n (q .call)) (single q ∷ []) []
   itemFor (sweep w) =
-      unrefused (sweepInputRefusal w) (sweep (sweepOf (λ a. eqb (place (sender a)) n) (w .senders) (w .heads) (w .counts) (w .nonces) (w .numbers)) ∷ [])
+      unrefused (sweepInputRefusal w) (sweep (sweepOf (λ a. eqb (shardOf (sender a)) n) (w .senders) (w .heads) (w .counts) (w .nonces) (w .numbers)) ∷ [])
 
   unfoldable pub itemsFor : List Item → List Item
   itemsFor = collect itemFor
@@ -46,8 +46,8 @@ module _ (keyOf : Call → Option Key) (place : Key → ℕ) (n : ℕ) where
 -- it is read as the shard's calls, as `Shardable` asks
 abbrev pub SplitIsRead : Type 0
 SplitIsRead =
-    (owner : Bytes → Key) (place : Key → ℕ) (n : ℕ) (is : List Item) →
-    callsRead (itemsFor (keyBy owner) place n is) ≡ callsFor (keyBy owner) place n (callsRead is)
+    (owner : Bytes → Key) (shardOf : Key → ℕ) (n : ℕ) (is : List Item) →
+    callsRead (itemsFor (keyBy owner) shardOf n is) ≡ callsFor (keyBy owner) shardOf n (callsRead is)
 
 -- If the store of document 01 has room for all, then so has each shard, and the shards are that store.
 abbrev pub SplittingRule : Type 0
@@ -55,7 +55,7 @@ SplittingRule =
     (is : List Item) →
     OneSender (callsRead is) →
     RoomFor empty is →
-    (place : Key → ℕ) (last : ℕ) →
-    ((k : Key) → place k ≤ last) →
-    ((n : ℕ) → RoomFor empty (itemsFor (keyBy (ownerIn (callsRead is))) place n is))
-    × Sharded (ownerIn (callsRead is)) place last (λ n. itemsFor (keyBy (ownerIn (callsRead is))) place n is) (runItems empty is) (transcriptRead empty is)
+    (shardOf : Key → ℕ) (last : ℕ) →
+    ((k : Key) → shardOf k ≤ last) →
+    ((n : ℕ) → RoomFor empty (itemsFor (keyBy (ownerIn (callsRead is))) shardOf n is))
+    × Sharded (ownerIn (callsRead is)) shardOf last (λ n. itemsFor (keyBy (ownerIn (callsRead is))) shardOf n is) (runItems empty is) (transcriptRead empty is)
