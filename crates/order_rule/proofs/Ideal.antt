@@ -205,15 +205,20 @@ step-view s q = go (inputRefusal (q .call)) (roomRefusal s (q .call) (q .form) (
 
 -- ---- a list of calls
 
+-- what is told of an answer but for a push's total
+pub shown-same : {A : Type 0} (f : Answer → A) → ((n : ℕ) → f (total 0) ≡ f (total n)) → (a : Answer) → f (shown a) ≡ f a
+unfolding shown
+shown-same f h (total n) = h n
+shown-same f h (rows l) = refl
+shown-same f h recorded = refl
+shown-same f h (entered w) = refl
+shown-same f h (frames l) = refl
+shown-same f h (dead l) = refl
+shown-same f h (refused n) = refl
+
 pub room-shown : (a : Answer) → aboutRoom (shown a) ≡ aboutRoom a
-unfolding shown aboutRoom
-room-shown (total n) = refl
-room-shown (rows l) = refl
-room-shown recorded = refl
-room-shown (entered w) = refl
-room-shown (frames l) = refl
-room-shown (dead l) = refl
-room-shown (refused n) = refl
+unfolding aboutRoom
+room-shown = shown-same aboutRoom (λ n. refl)
 
 first-room : (s : Store) (q : Request) (qs : List Request) → EnoughRoom s (q ∷ qs) → aboutRoom (step s q .1) ≡ false
 unfolding transcript

@@ -46,7 +46,7 @@ calls-append (x ∷ xs) ys = ap (λ (l : List Call). x .call ∷ l) (calls-appen
 
 -- ---- the polls of a sweep that is not refused
 
-abbrev AnswersRows : Call × Answer → Type 0
+abbrev pub AnswersRows : Call × Answer → Type 0
 AnswersRows t = (l : List Row) × (t .1 ≡ rows l)
 
 module _ (s : Store) (a : Bytes) (head : ℕ) (known : List ℕ) where

@@ -1,5 +1,8 @@
 pub mod Merging
 pub mod Once
+pub mod Sums
+pub mod Totals
+pub mod Columns
 pub mod Theorem
 pub mod GuardCounts
 pub mod Room

@@ -1,5 +1,5 @@
 -- What is read from shards (`Readings.ReadsRule`), proved: `reads-rule`; and a push's total, `total-rule`.
-use Prim.Native.Nat.{ℕ, zero, suc, _+_, _≤_}
+use Prim.Native.Nat.{ℕ, _+_, _≤_}
 use native.Mathlib.Omega.{arith}
 use mathlib.Core.Path.{_≡_, refl, sym, ap, _∙_}
 use mathlib.Core.Bool.{Bool, true, false, _||_, not, cond}
@@ -11,7 +11,7 @@ use borrow.Author.Tests.{eq-eqb}
 use Rattle.lists.specs.Bytes.{Bytes, eqBytes, leBytes, Before}
 use Rattle.lists.specs.Lists.{keep, isEmpty, collect, Pairwise}
 use Rattle.lists.proofs.ByteOrder.{eqBytes-true, clash}
-use Rattle.lists.proofs.Keeping.{keep-on, keep-keep, keep-each, keep-append, each-map, each-of}
+use Rattle.lists.proofs.Keeping.{keep-on, keep-keep, keep-append, each-map, each-of}
 use Rattle.lists.proofs.Elements.{each-kept}
 use Rattle.store_rules.specs.Frames.{Entry, isTracked}
 use Rattle.store_rules.specs.Lookup.{entriesOf, hasHash, lookup}
@@ -24,47 +24,12 @@ use Rattle.order_rule.proofs.Listed.{Ascends}
 use Rattle.store_laws.proofs.Listings.{last-hash, senders-ascending}
 use Rattle.store_laws.specs.Listings.{hashOf, lastHash}
 use Rattle.store_laws.proofs.Reachable.{insert-length}
-use Rattle.sharding_rule.specs.Merging.{into, merge, gather}
+use Rattle.sharding_rule.specs.Merging.{merge, gather}
 use Rattle.sharding_rule.specs.Shards.{unlimitedStep, Sharded}
 use Rattle.sharding_rule.specs.Readings.{Reads, ReadsRule, TotalRule}
+use Rattle.sharding_rule.proofs.Sums.{count-parts, length-parts}
 use Rattle.sharding_rule.proofs.Blocks.{none-last, last-of-one}
 use Rattle.sharding_rule.proofs.Merging.{By, gather-same, gather-keep}
-
--- ---- numbers
-
-module _ {A : Type 0} (at : A → Bytes) (t : A → Bool) where
-  abbrev Count : List A → ℕ
-  Count l = length (keep t l)
-
-  weight : A → ℕ
-  weight x = cond (t x) 1 0
-
-  count-cons : (x : A) (l : List A) → Count (x ∷ l) ≡ weight x + Count l
-  unfolding keep weight
-  count-cons x l = go (t x)
-    where
-      go : (b : Bool) → length (cond b (x ∷ keep t l) (keep t l)) ≡ cond b 1 0 + Count l
-      go true = omega arith
-      go false = omega arith
-
-  count-into : (x : A) (rest : List A → List A) (n : ℕ) → ((l : List A) → Count (rest l) ≡ n + Count l) → (ys : List A) → Count (into at x rest ys) ≡ (weight x + n) + Count ys
-  unfolding into
-  count-into x rest n h [] = let p = count-cons x (rest []) in let q = h [] in omega arith
-  count-into x rest n h (y ∷ ys) = go (leBytes (at x) (at y)) (count-into x rest n h ys)
-    where
-      go : (b : Bool) → Count (into at x rest ys) ≡ (weight x + n) + Count ys → Count (cond b (x ∷ rest (y ∷ ys)) (y ∷ into at x rest ys)) ≡ (weight x + n) + Count (y ∷ ys)
-      go true ih = let p = count-cons x (rest (y ∷ ys)) in let q = h (y ∷ ys) in omega arith
-      go false ih = let p = count-cons y (into at x rest ys) in let q = count-cons y ys in omega arith
-
-  count-merge : (xs ys : List A) → Count (merge at xs ys) ≡ Count xs + Count ys
-  unfolding merge keep
-  count-merge [] ys = omega arith
-  count-merge (x ∷ xs) ys = let p = count-into x (merge at xs) (Count xs) (count-merge xs) ys in let q = count-cons x xs in omega arith
-
-  count-gather : (last : ℕ) (given : ℕ → List A) → Count (gather (merge at) last given) ≡ gather _+_ last (λ n. Count (given n))
-  unfolding gather
-  count-gather zero given = refl
-  count-gather (suc last) given = count-merge (gather (merge at) last given) (given (suc last)) ∙ ap (λ (n : ℕ). n + Count (given (suc last))) (count-gather last given)
 
 -- ---- senders
 
@@ -116,15 +81,14 @@ module _ (owner : Bytes → Key) (shardOf : Key → ℕ) (last : ℕ) (bound : (
   At n = runItems empty (sent n)
 
   counted : (t : Entry → Bool) → length (keep t (one .entries)) ≡ gather _+_ last (λ n. length (keep t (At n .entries)))
-  counted t = ap (λ (l : List Entry). length (keep t l)) (s .entries) ∙ count-gather (λ (e : Entry). e .frame .from) t last (λ n. At n .entries)
+  counted t =
+      count-parts last (λ (e : Entry). shardOf (sender (e .frame .from))) (λ e. bound (sender (e .frame .from))) t (one .entries)
+      ∙ gather-same _+_ last _ (λ n. length (keep t (At n .entries))) (λ n l. ap (λ (es : List Entry). length (keep t es)) (sym (s .held n l)))
 
   all-counted : length (one .entries) ≡ gather _+_ last (λ n. length (At n .entries))
   all-counted =
-      ap (λ (l : List Entry). length l) (sym (every (one .entries))) ∙ counted (λ e. true)
-      ∙ gather-same _+_ last (λ n. length (keep (λ e. true) (At n .entries))) (λ n. length (At n .entries)) (λ n l. ap (λ (l : List Entry). length l) (every (At n .entries)))
-    where
-      every : (es : List Entry) → keep (λ e. true) es ≡ es
-      every es = keep-each (λ e. true) es (each-of (λ e. true ≡ true) es (λ e m. refl))
+      length-parts last (λ (e : Entry). shardOf (sender (e .frame .from))) (λ e. bound (sender (e .frame .from))) (one .entries)
+      ∙ gather-same _+_ last _ (λ n. length (At n .entries)) (λ n l. ap (λ (es : List Entry). length es) (sym (s .held n l)))
 
   senders-merged : senders one ≡ gather (merge (λ a. a)) last (λ n. senders (At n))
   unfolding senders keep

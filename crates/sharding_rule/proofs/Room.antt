@@ -17,7 +17,7 @@ use Rattle.store_rules.specs.Frames.{Frame, Entry, Guard, Dead}
 use Rattle.store_rules.specs.Lookup.{entriesOf}
 use Rattle.store_rules.specs.Store.{Store, RowForm, guardOf, isGuarded, Call, push, poll, guard, enterTentative, evictSender, checkReorg, checkFinalized, Request, Answer, total, rows, recorded, entered, frames, dead, refused, walked, effect, when, noRoomFor, inputRefusal, roomRefusal, refusal, unless, listed, step}
 use Rattle.order_rule.specs.Orders.{Key, sender, keyBy, concerns, shown, aboutRoom}
-use Rattle.order_rule.proofs.Ideal.{Ideal, view, stepᵢ, unlessᵢ, effectᵢ, seen, effect-view, RoomOnly, room-only}
+use Rattle.order_rule.proofs.Ideal.{Ideal, view, stepᵢ, unlessᵢ, effectᵢ, seen, effect-view, RoomOnly, room-only, shown-same}
 use Rattle.order_rule.proofs.Invariant.{Good}
 use Rattle.order_rule.proofs.Shard.{ours, only, shard, ourList, ourAnswer, own-step}
 use Rattle.store_laws.proofs.Reachable.{OneGuardAHash}
@@ -52,14 +52,8 @@ fewer-listed : (room m n : ℕ) → m ≤ n → ltb room n ≡ false → ltb roo
 fewer-listed room m n l e = let p = ltb-false room n e in le-ltb room m (omega arith)
 
 listed-shown : (a : Answer) → listed (shown a) ≡ listed a
-unfolding listed shown
-listed-shown (total n) = refl
-listed-shown (rows l) = refl
-listed-shown recorded = refl
-listed-shown (entered w) = refl
-listed-shown (frames l) = refl
-listed-shown (dead l) = refl
-listed-shown (refused n) = refl
+unfolding listed
+listed-shown = shown-same listed (λ n. refl)
 
 -- ---- a shard has room where the one store has
 

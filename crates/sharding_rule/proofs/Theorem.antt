@@ -1,11 +1,12 @@
 -- The sharding rule (`Shards.ShardingRule`), proved: `sharding-rule`. A shard of an ideal run is the run of the shard's calls (order_rule,
 -- `shard-run`); so the run is put together from its shards (`merged`).
-use Prim.Native.Nat.{ℕ, zero, suc, _≤_}
+use Prim.Native.Nat.{ℕ, zero, suc, _+_, _≤_}
 use mathlib.Core.Path.{_≡_, refl, sym, ap, ap₂, _∙_, subst, fun-ext}
 use mathlib.Core.Bool.{Bool, true, false, cond, false≢true}
 use mathlib.Core.List.{List, [], _∷_, _++_, Memᴰ·cast}
 use mathlib.Core.Option.{Option, none, some}
 use lib.Dec.{eqb}
+use lib.ListN.{length}
 use Rattle.lists.specs.Bytes.{Bytes, eqBytes}
 use Rattle.lists.specs.Lists.{keep, Each}
 use Rattle.lists.proofs.ByteOrder.{eqBytes-refl}
@@ -14,6 +15,7 @@ use Rattle.store_rules.specs.Frames.{Frame, Entry, Guard, Dead}
 use Rattle.store_rules.specs.Rules.{reorgRule, finalRule}
 use Rattle.store_rules.specs.Store.{Store, empty, guardOf, Call, push, poll, guard, enterTentative, evictSender, checkReorg, checkFinalized, Answer, frames, dead, effect, inputRefusal, unless}
 use Rattle.store_rules.specs.Sweeps.{Item, runItems}
+use Rattle.store_rules.specs.Totals.{totals}
 use Rattle.order_rule.specs.Orders.{Key, sender, eqKey, pushOf, ownerBy, ownerIn, keyBy, shown, callsRead, transcriptRead, RoomFor}
 use Rattle.order_rule.proofs.Ideal.{Ideal, Guards, view, trail, trailed, effectᵢ, unlessᵢ, stepᵢ, runᵢ, transcriptᵢ, seen, effect-view}
 use Rattle.order_rule.proofs.Invariant.{OwnedCall, Good, step-good}
@@ -24,7 +26,11 @@ use Rattle.order_rule.proofs.Owner.{owned-call}
 use Rattle.order_rule.proofs.Sweeps.{items-view}
 use Rattle.sharding_rule.specs.Merging.{merge, gather, framesIn, deadFrames, joinAnswers}
 use Rattle.sharding_rule.specs.Shards.{unlimitedStep, unlimitedRun, unlimitedTranscript, goesTo, callsFor, mergedAnswer, MergedFrom, nothing, next, Sharded, Shardable, ShardingRule, ShardingRuleTold, OwnerSoFar}
+use Rattle.sharding_rule.specs.Totals.{totalsTold, addTotals}
 use Rattle.sharding_rule.proofs.Once.{merged-as}
+use Rattle.sharding_rule.proofs.Sums.{length-parts}
+use Rattle.sharding_rule.proofs.Totals.{totals-are-told}
+use Rattle.sharding_rule.proofs.Columns.{shard-totals}
 use Rattle.sharding_rule.proofs.Merging.{By, gather-same, gather-keep}
 
 -- ---- the store without limits of room is the ideal one
@@ -155,6 +161,10 @@ module _ (owner : Bytes → Key) (shardOf : Key → ℕ) (last : ℕ) (bound : (
     conclude one lines e f = record {
       answers = merged-as KeyOf shardOf last bound lines-are
           (subst (MergedFrom KeyOf shardOf last (λ n. ourLines owner (Of n) Lines)) f (merged (view empty) (good-empty owner) cs owned));
+      totals =
+          ap (totalsTold one) (sym f) ∙ shard-totals owner shardOf last bound (view empty) cs one (λ n. runItems empty (sent n)) counted
+          ∙ gather-same addTotals last _ (λ n. totals empty (sent n))
+          (λ n l. ap (totalsTold (runItems empty (sent n))) (sym (lines-are n l)) ∙ sym (totals-are-told (sent n) (room n l)));
       sorted = good .sorted;
       owned = good .owned;
       held = held;
@@ -170,6 +180,11 @@ module _ (owner : Bytes → Key) (shardOf : Key → ℕ) (last : ℕ) (bound : (
 
         held : (n : ℕ) → n ≤ last → runItems empty (sent n) .entries ≡ PartOf From (one .entries) n
         held n l = ap (λ (s : Ideal). s .entries) (each-is n l)
+
+        counted : length (one .entries) ≡ gather _+_ last (λ n. length (runItems empty (sent n) .entries))
+        counted =
+            length-parts last (λ e. shardOf (sender (From e))) (λ e. bound (sender (From e))) (one .entries)
+            ∙ gather-same _+_ last _ (λ n. length (runItems empty (sent n) .entries)) (λ n l. ap (λ (es : List Entry). length es) (sym (held n l)))
 
 -- ---- the rule
 

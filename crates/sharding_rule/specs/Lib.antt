@@ -1,4 +1,5 @@
 pub mod Merging
+pub mod Totals
 pub mod Shards
 pub mod Splitting
 pub mod Readings

@@ -12,8 +12,10 @@ use Rattle.lists.specs.Lists.{keep, Each}
 use Rattle.store_rules.specs.Frames.{Frame, Entry}
 use Rattle.store_rules.specs.Store.{Store, empty, Sorted, guardOf, Call, push, Answer, effect, inputRefusal, unless}
 use Rattle.store_rules.specs.Sweeps.{Item, runItems}
+use Rattle.store_rules.specs.Totals.{totals}
 use Rattle.order_rule.specs.Orders.{Key, sender, ownerIn, keyBy, concerns, OneSender, shown, callsRead, transcriptRead, RoomFor}
 use Rattle.sharding_rule.specs.Merging.{merge, gather, joinAnswers}
+use Rattle.sharding_rule.specs.Totals.{totalsTold, addTotals}
 
 -- ---- the one store, without limits of room
 
@@ -73,6 +75,8 @@ MergedOnce =
 pub record Sharded (owner : Bytes → Key) (shardOf : Key → ℕ) (last : ℕ) (sent : ℕ → List Item) (one : Store) (lines : List (Call × Answer)) : Type 0 where
   -- every answer but a push's total
   pub answers : MergedFrom (keyBy owner) shardOf last (λ n. transcriptRead empty (sent n)) lines
+  -- the totals are those of the shards, added column by column
+  pub totals : totalsTold one lines ≡ gather addTotals last (λ n. totals empty (sent n))
   -- the entries are in walk order, and each frame's sender is the owner of its hash
   pub sorted : Sorted (one .entries)
   pub owned : Each (λ e. owner (e .frame .hash) ≡ sender (e .frame .from)) (one .entries)
