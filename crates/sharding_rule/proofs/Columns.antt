@@ -54,10 +54,14 @@ module _ (owner : Bytes → Key) (shardOf : Key → ℕ) (last : ℕ) (bound : (
     added-parts t (c ∷ cs) =
         ap₂ _+_ (line-adds t c) (added-parts (stepᵢ t c .0) cs)
         ∙ sym (gather-plus last (Adds c (shown (stepᵢ t c .1))) later)
-        ∙ gather-same _+_ last (λ n. Adds c (shown (stepᵢ t c .1)) n + later n) _ (λ n l. go (concerns (Of n) (keyBy owner c)) (c, ourAnswer owner (Of n) (keyBy owner c) (shown (stepᵢ t c .1))) (ourLines owner (Of n) (transcriptᵢ (stepᵢ t c .0) cs)))
+        ∙ gather-same _+_ last (λ n. Adds c (shown (stepᵢ t c .1)) n + later n) _
+        (λ n l. go (concerns (Of n) (keyBy owner c)) (c, ourAnswer owner (Of n) (keyBy owner c) (shown (stepᵢ t c .1))) (laterLines n))
       where
+        laterLines : ℕ → List (Call × Answer)
+        laterLines n = ourLines owner (Of n) (transcriptᵢ (stepᵢ t c .0) cs)
+
         later : ℕ → ℕ
-        later n = added count (ourLines owner (Of n) (transcriptᵢ (stepᵢ t c .0) cs))
+        later n = added count (laterLines n)
 
         go : (b : Bool) (line : Call × Answer) (lines : List (Call × Answer)) → cond b (count line) 0 + added count lines ≡ added count (cond b (line ∷ lines) lines)
         go true line lines = refl
@@ -77,6 +81,9 @@ module _ (owner : Bytes → Key) (shardOf : Key → ℕ) (last : ℕ) (bound : (
   gather-totals zero f = refl
   gather-totals (suc n) f = ap (λ (t : Totals). addTotals t (f (suc n))) (gather-totals n f)
 
+  dead-parts : (l : List Dead) → length l ≡ gather _+_ last (λ n. length (OwnDead n l))
+  dead-parts = length-parts last (λ (d : Dead). shardOf (sender (d .frame .from))) (λ d. bound (sender (d .frame .from)))
+
   all-zero : 0 ≡ gather _+_ last (λ n. 0)
   all-zero = sym (gather-zero last)
 
@@ -88,7 +95,7 @@ module _ (owner : Bytes → Key) (shardOf : Key → ℕ) (last : ℕ) (bound : (
         added-parts (λ x. acceptedIn (x .1)) (λ b canonical l. refl) (λ m l. all-zero) t cs,
         held,
         added-parts (λ x. rescuedIn (x .1)) (λ b canonical l. refl) (λ m l. all-zero) t cs,
-        added-parts (λ x. deadIn (x .1)) (λ b canonical l. refl) (λ m l. length-parts last (λ (d : Dead). shardOf (sender (d .frame .from))) (λ d. bound (sender (d .frame .from))) l) t cs,
+        added-parts (λ x. deadIn (x .1)) (λ b canonical l. refl) (λ m l. dead-parts l) t cs,
         added-parts (λ x. cond (isEviction (x .0)) (listed (x .1)) 0) (λ b canonical l. refl) (λ m l. all-zero) t cs,
       )
       (sym (gather-totals last (λ n. totalsTold (stores n) (ourLines owner (Of n) (transcriptᵢ t cs)))))

@@ -32,7 +32,8 @@ module _ (keyOf : Call → Option Key) (shardOf : Key → ℕ) (last : ℕ) (bou
         go false e = e
 
     heard : (n : ℕ) → n ≤ last → goesTo keyOf shardOf n c ≡ true → f n ≡ g n
-    heard n l y = ap (λ (t : Call × Answer). t .1) (head-eq-of-cons-eq (subst (λ (b : Bool). cond b ((c, f n) ∷ later n) (later n) ≡ cond b ((c, g n) ∷ after n) (after n)) y (same n l)))
+    heard n l y = ap (λ (t : Call × Answer). t .1)
+        (head-eq-of-cons-eq (subst (λ (b : Bool). cond b ((c, f n) ∷ later n) (later n) ≡ cond b ((c, g n) ∷ after n) (after n)) y (same n l)))
 
     answer-same : mergedAnswer keyOf shardOf last (keyOf c) f ≡ mergedAnswer keyOf shardOf last (keyOf c) g
     unfolding mergedAnswer goesTo concerns

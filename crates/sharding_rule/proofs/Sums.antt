@@ -57,7 +57,8 @@ module _ {A : Type 0} (last : ℕ) (shardOf : A → ℕ) (bound : (x : A) → sh
       let n : ℕ = cond (t x) 1 0 in
       weigh (t x) (keep t xs) ∙ ap₂ _+_ (sym (gather-one last (shardOf x) n (bound x))) (count-parts t xs)
       ∙ sym (gather-plus last (λ m. cond (eqb (shardOf x) m) n 0) (λ m. length (keep t (PartOf xs m))))
-      ∙ gather-same _+_ last (λ m. cond (eqb (shardOf x) m) n 0 + length (keep t (PartOf xs m))) (λ m. length (keep t (PartOf (x ∷ xs) m))) (λ m l. heard (eqb (shardOf x) m) (PartOf xs m))
+      ∙ gather-same _+_ last (λ m. cond (eqb (shardOf x) m) n 0 + length (keep t (PartOf xs m))) (λ m. length (keep t (PartOf (x ∷ xs) m)))
+      (λ m l. heard (eqb (shardOf x) m) (PartOf xs m))
     where
       weigh : (b : Bool) (ys : List A) → length (cond b (x ∷ ys) ys) ≡ cond b 1 0 + length ys
       weigh true ys = omega arith

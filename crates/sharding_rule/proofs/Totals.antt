@@ -37,7 +37,8 @@ added-none count (x ∷ xs) h = omega (arith, h .0, added-none count xs (h .1))
 module _ (ofItem : Item → Answer → ℕ) (ofLine : Call × Answer → ℕ)
     (of-single : (q : Request) (a : Answer) → ofItem (single q) a ≡ ofLine (q .call, shown a))
     (of-refused : (w : Sweep) (n : ℕ) → ofItem (sweep w) (refused n) ≡ 0)
-    (of-polls : (s : Store) (w : Sweep) → Each AnswersRows (transcript s (pollsIn s w)) → ofItem (sweep w) (rows (rowsListed s (pollsIn s w))) ≡ added ofLine (transcript s (pollsIn s w))) where
+    (of-polls : (s : Store) (w : Sweep) → Each AnswersRows (transcript s (pollsIn s w)) →
+    ofItem (sweep w) (rows (rowsListed s (pollsIn s w))) ≡ added ofLine (transcript s (pollsIn s w))) where
   item-adds : (s : Store) (i : Item) → aboutRoom (stepItem s i .1) ≡ false → ofItem i (stepItem s i .1) ≡ added ofLine (transcript s (requestsOf s i))
   unfolding stepItem requestsOf transcript added sum sweepStep sweepRefusal sweepRoomRefusal sweepEffect unless orElse unrefused when aboutRoom
   item-adds s (single q) h = let e = of-single q (step s q .1) in omega arith
@@ -61,7 +62,9 @@ module _ (ofItem : Item → Answer → ℕ) (ofLine : Call × Answer → ℕ)
 
 -- a sweep's polls, of which each answers rows
 polls-add-none : (count : Call × Answer → ℕ) → ((c : Call) (l : List Row) → count (c, rows l) ≡ 0) → (lines : List (Call × Answer)) → Each AnswersRows lines → 0 ≡ added count lines
-polls-add-none count h lines a = sym (added-none count lines (each-map AnswersRows (λ t. count t ≡ 0) lines (λ t r. ap (λ (x : Answer). count (t .0, x)) (r .1) ∙ h (t .0) (r .0)) a))
+polls-add-none count h lines a =
+    sym (added-none count lines
+    (each-map AnswersRows (λ t. count t ≡ 0) lines (λ t r. ap (λ (x : Answer). count (t .0, x)) (r .1) ∙ h (t .0) (r .0)) a))
 
 no-evictions : (s : Store) (senders : Bytes) (hs cs nonces : List ℕ) (numbers : ℕ) →
     Each (λ t. cond (isEviction (t .0)) (listed (t .1)) 0 ≡ 0) (transcript s (inTurn s (pollsFrom senders hs cs nonces) numbers))
@@ -101,7 +104,8 @@ module _ (is : List Item) (h : RoomFor empty is) where
 
   evicted-told : sum (map (λ x. evictedIn (x .0) (x .1)) (answers empty is)) ≡ added (λ t. cond (isEviction (t .0)) (listed (t .1)) 0) (transcriptRead empty is)
   unfolding evictedIn listed pollsIn
-  evicted-told = column evictedIn (λ t. cond (isEviction (t .0)) (listed (t .1)) 0) (λ q a. sym (shown-same (λ x. cond (isEviction (q .call)) (listed x) 0) (λ n. refl) a)) (λ w n. refl)
+  evicted-told = column evictedIn (λ t. cond (isEviction (t .0)) (listed (t .1)) 0)
+      (λ q a. sym (shown-same (λ x. cond (isEviction (q .call)) (listed x) 0) (λ n. refl) a)) (λ w n. refl)
       (λ s w r. sym (added-none _ (transcript s (pollsIn s w)) (no-evictions s (w .senders) (w .heads) (w .counts) (w .nonces) (w .numbers)))) empty is h
 
 pub totals-are-told : TotalsAreTold
