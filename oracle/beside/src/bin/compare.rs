@@ -1,10 +1,10 @@
 //! Holds our store and journal beside the published Rust: document 01's examples, random scripts, all short runs, random traces,
-//! the order rule, slices of all lengths, random journals, cuts, restores, records written, and wrong rules. The last line has the
-//! counts and the number of differences. A run fails by a difference, by a wrong rule that was not caught, and by a kind of answer
-//! that was not seen.
+//! slices of all lengths, the order rule, the sharding rule, random journals, cuts, restores, records written, and wrong rules. The
+//! last line has the counts and the number of differences. A run fails by a difference, by a wrong rule that was not caught, and by
+//! a kind of answer that was not seen.
 //!
-//! compare [--replay PROGRAM] [--short-slices PROGRAM] [--trace PROGRAM] [--calls N] [--traces N] [--orders N] [--journals N]
-//!     [--records N] [--seed N]
+//! compare [--replay PROGRAM] [--short-slices PROGRAM] [--trace PROGRAM] [--calls N] [--traces N] [--orders N] [--shards N]
+//!     [--journals N] [--records N] [--seed N]
 use beside::intended;
 use beside::journal::original::Original;
 use beside::journal::ours::{ours, Ours};
@@ -14,14 +14,16 @@ use beside::program::Program;
 use beside::scratch::Scratch;
 use beside::seen::{self, Seen};
 use beside::store::menu::{menu, LONGEST};
+use beside::store::shards::{compare as shards, strength as shard_strength, wrong as shard_wrong};
 use beside::store::trace::{compare as traces, strength as trace_strength, wrong as trace_wrong};
 use beside::store::{compare as stores, order, slices, strength as store_strength, wrong as store_wrong};
 use std::path::Path;
 use std::process::ExitCode;
 
-/// How many random scripts, traces, journals, and values to write, a wrong rule is looked for in.
+/// How many random scripts, traces, lists for shards, journals, and values to write, a wrong rule is looked for in.
 const SCRIPTS_FOR_WRONG: u64 = 3000;
 const TRACES_FOR_WRONG: u64 = 1500;
+const LISTS_FOR_WRONG: u64 = 60;
 const JOURNALS_FOR_WRONG: u64 = 6000;
 const VALUES_FOR_WRONG: u64 = 20_000;
 
@@ -32,6 +34,7 @@ struct Sizes {
     calls: usize,
     traces: u64,
     orders: u64,
+    shards: usize,
     journals: u64,
     records: u64,
     seed: u64,
@@ -45,6 +48,7 @@ fn sizes() -> Sizes {
         calls: 1_200_000,
         traces: 3000,
         orders: 100_000,
+        shards: 220_000,
         journals: 100_000,
         records: 150_000,
         seed: 0,
@@ -63,6 +67,7 @@ fn sizes() -> Sizes {
             "--calls" => sizes.calls = number() as usize,
             "--traces" => sizes.traces = number(),
             "--orders" => sizes.orders = number(),
+            "--shards" => sizes.shards = number() as usize,
             "--journals" => sizes.journals = number(),
             "--records" => sizes.records = number(),
             "--seed" => sizes.seed = number(),
@@ -180,6 +185,20 @@ impl Run<'_> {
         self.counts.push(format!("{reordered} true reorderings"));
     }
 
+    fn shards(&mut self) {
+        let random = shards::random(self.sizes.seed, self.sizes.shards, self.replay);
+        println!("sharding rule: {random}");
+        let lists = shard_strength::answered(self.sizes.seed, LISTS_FOR_WRONG);
+        let shared = shard_strength::shared_hashes_differ(&lists);
+        println!(
+            "  senders that share hashes, which the rule leaves out, were told apart in {shared} of {} lists",
+            lists.len()
+        );
+        self.differences += random.model + random.replay;
+        self.seen.add(&random.seen);
+        self.counts.push(format!("{} calls split over shards", random.calls));
+    }
+
     fn journal(&mut self) {
         let random = journals::random(self.sizes.seed, self.sizes.journals, self.original, self.linked);
         println!("journal, random: {random}");
@@ -212,6 +231,10 @@ impl Run<'_> {
         let trace = trace_wrong::ALL;
         let answers = trace_strength::answered(seed, TRACES_FOR_WRONG);
         let in_trace = trace.iter().filter(|(w, says)| trace_strength::catches(*w, says, &answers)).count();
+        println!("wrong rules for the sharding rule:");
+        let shard = shard_wrong::ALL;
+        let answers = shard_strength::answered(seed, LISTS_FOR_WRONG);
+        let in_shard = shard.iter().filter(|(w, says)| shard_strength::catches(*w, says, &answers)).count();
         println!("wrong rules for the journal:");
         let journal = journal_wrong::ALL;
         let answers = journal_strength::answered(seed, JOURNALS_FOR_WRONG, self.original);
@@ -221,8 +244,13 @@ impl Run<'_> {
         let writer = writer_wrong::ALL;
         let cases = writer_strength::cases(seed, VALUES_FOR_WRONG);
         let in_writer = writer.iter().filter(|(w, says)| writer_strength::catches(*w, says, &cases)).count();
-        let caught =
-            [(in_store, store.len()), (in_trace, trace.len()), (in_journal, journal.len()), (in_writer, writer.len())];
+        let caught = [
+            (in_store, store.len()),
+            (in_trace, trace.len()),
+            (in_shard, shard.len()),
+            (in_journal, journal.len()),
+            (in_writer, writer.len()),
+        ];
         let says = caught.map(|(caught, all)| format!("{caught} of {all}"));
         self.counts.push(format!("wrong rules caught {}", says.join(" and ")));
         caught.iter().all(|(caught, all)| caught == all)
@@ -278,6 +306,7 @@ fn main() -> ExitCode {
     run.traces();
     run.slices();
     run.orders();
+    run.shards();
     run.journal();
     run.records();
     let caught = run.strength();

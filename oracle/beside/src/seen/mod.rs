@@ -1,10 +1,12 @@
 //! What a run has met: each refusal and each kind of answer, counted from the Rust's own answers, and for sender and place, for
 //! what stands in a trace and for the writers of records from the comparison's own. A kind that a run did not meet fails it.
 mod journal;
+mod shards;
 mod store;
 mod trace;
 
 pub use journal::{see_fold, see_restore, see_write};
+pub use shards::{see_list, see_split};
 use std::collections::BTreeMap;
 pub use store::see_call;
 pub use trace::see_trace;
@@ -141,6 +143,29 @@ sayings! { Kind {
     TotalsAll: "totals: all five above 0",
     TotalsLarge: "totals: a number above 255",
     TotalsOfEmpty: "totals: all five 0, of an empty trace",
+    ListOver64: "shards: a list with over 64 frames at once",
+    ListOver1000: "shards: a list with over 1,000 frames at once",
+    ListTwice: "shards: a hash that its sender pushes twice",
+    ListGuardFirst: "shards: a guard before the first push of its hash",
+    ListGuardNobody: "shards: a guard of a hash that nobody pushes",
+    ListEnterNobody: "shards: an entering of a hash that nobody pushes",
+    SplitFull: "shards: a shard that has 64 frames",
+    SplitNoRoom: "shards: a call that a shard refuses for want of room",
+    SplitReorg: "shards: a reorganisation that revives frames of two shards or more",
+    SplitFinality: "shards: a finality that ends frames of two shards or more",
+    SplitSweep: "shards: a sweep with rows of two shards or more",
+    SplitSweepTwice: "shards: a sweep that lists a sender twice, sent as its polls",
+    SplitBlocks: "shards: tentative blocks whose hashes the shards settle",
+    SplitUnsettled: "shards: tentative blocks of which shards list different hashes",
+    SplitWhose: "shards: a frame found by its hash behind others of its sender",
+    Split1: "shards: push refused 1",
+    Split3: "shards: poll refused 3",
+    Split4: "shards: poll refused 4",
+    Split6: "shards: guard refused 6",
+    Split7: "shards: guard refused 7",
+    Split17: "shards: sweep refused 17",
+    Split18: "shards: sweep refused 18",
+    SplitSweep3: "shards: sweep refused 3",
     List5: "list refused 5, but for a short poll's and a sweep's",
     ListExact: "list in a slice just long enough",
     ListPast: "list in a longer slice",
@@ -204,7 +229,7 @@ impl Seen {
         other.0.iter().for_each(|(kind, count)| self.times(*kind, *count));
     }
 
-    fn count(&self, kind: Kind) -> u64 {
+    pub fn count(&self, kind: Kind) -> u64 {
         self.0.get(&kind).copied().unwrap_or(0)
     }
 

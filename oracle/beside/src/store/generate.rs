@@ -102,11 +102,11 @@ fn some_of<const N: usize>(r: &mut Random, count: usize) -> Vec<[u8; N]> {
 }
 
 /// The gap of a frame, as far as a push lets it in.
-fn gap(f: &Frame) -> Vec<u64> {
+pub(super) fn gap(f: &Frame) -> Vec<u64> {
     (f.expected..f.claim).take(20).collect()
 }
 
-fn predecessors(f: &Frame, head: u64) -> Vec<u64> {
+pub(super) fn predecessors(f: &Frame, head: u64) -> Vec<u64> {
     gap(f).into_iter().filter(|n| *n >= head).collect()
 }
 

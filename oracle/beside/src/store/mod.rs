@@ -16,6 +16,7 @@ pub mod reading;
 mod refusals;
 pub mod replay;
 pub mod script;
+pub mod shards;
 pub mod slices;
 pub mod strength;
 pub mod trace;

@@ -15,6 +15,8 @@ pub struct Model {
     pub guards: Vec<Guard>,
     /// Every frame that was ever held, which a wrong rule counts.
     pushed: Vec<Frame>,
+    /// Whether it takes any number of frames and of guards, as the Rust does.
+    unlimited: bool,
     wrong: Option<Wrong>,
 }
 
@@ -26,7 +28,7 @@ struct OfHash {
     last_tracked: Option<usize>,
 }
 
-/// The inputs of a poll, whether it is one of a sweep, and the guards as they stood when it began.
+/// The inputs of a poll, whether it is one of a sweep, and for a wrong rule the guards as they stood when it began.
 struct Poll<'a> {
     form: Form,
     swept: bool,
@@ -59,6 +61,27 @@ fn row(said: &Said) -> Row {
 impl Model {
     pub fn with(wrong: Option<Wrong>) -> Self {
         Model { wrong, ..Model::default() }
+    }
+
+    /// Without the limits of 64 frames and 64 guards.
+    pub fn unlimited() -> Self {
+        Model { unlimited: true, ..Model::default() }
+    }
+
+    /// The store as it stands, which only wrong rules look back at.
+    fn to_look_back_at(&self) -> Model {
+        match self.wrong {
+            Some(_) => self.clone(),
+            None => Model::default(),
+        }
+    }
+
+    /// The guards as they stand, which only a wrong rule looks back at.
+    fn guards_to_look_back_at(&self) -> Vec<Guard> {
+        match self.plants(Wrong::GuardsAsAtStart) {
+            true => self.guards.clone(),
+            false => Vec::new(),
+        }
     }
 
     fn plants(&self, wrong: Wrong) -> bool {
@@ -166,7 +189,7 @@ impl Model {
     }
 
     fn guard(&mut self, call: &GuardCall) -> Answer {
-        if let Some(number) = refusals::of_guard(self.wrong, call, &self.guards) {
+        if let Some(number) = refusals::of_guard(self.wrong, call, if self.unlimited { &[] } else { &self.guards }) {
             if self.plants(Wrong::RefusedGuardDrops) {
                 self.drop_guard(call.hash);
             }
@@ -197,7 +220,7 @@ impl Model {
             return Answer::Refused(number);
         }
         let before = self.plants_in(form, Wrong::ShortStoreStays).then(|| self.clone());
-        let poll = Poll { form, swept: false, head, known, content, start: self.guards.clone() };
+        let poll = Poll { form, swept: false, head, known, content, start: self.guards_to_look_back_at() };
         let rows = self.poll_sender(sender, &poll);
         if let Some(before) = before {
             *self = before;
@@ -211,13 +234,17 @@ impl Model {
     /// What the rules say of the sender's entries, of which some leave.
     fn poll_sender(&mut self, sender: Address, poll: &Poll) -> Vec<Said> {
         let mut rows = Vec::new();
-        let mut kept = Vec::new();
-        for mut entry in std::mem::take(&mut self.entries) {
-            if entry.frame.from != sender || self.poll_entry(&mut entry, poll, &mut rows) {
-                kept.push(entry);
+        let mut place = 0;
+        while let Some(next) = self.entries[place..].iter().position(|e| e.frame.from == sender) {
+            place += next;
+            let mut entry = self.entries[place].clone();
+            if self.poll_entry(&mut entry, poll, &mut rows) {
+                self.entries[place] = entry;
+                place += 1;
+            } else {
+                self.entries.remove(place);
             }
         }
-        self.entries = kept;
         rows
     }
 
@@ -330,7 +357,7 @@ impl Model {
     // ---- the other calls that change the store
 
     fn push(&mut self, f: &Frame) -> Answer {
-        let refusal = refusals::of_push(self.wrong, f, &self.entries);
+        let refusal = refusals::of_push(self.wrong, f, if self.unlimited { &[] } else { &self.entries });
         if refusal.is_none() || refusal == Some(1) && self.plants(Wrong::RefusedPushHeld) {
             let place = self.entries.iter().position(|e| e.frame.from > f.from).unwrap_or(self.entries.len());
             let place = if self.plants(Wrong::WalkInPushOrder) { self.entries.len() } else { place };

@@ -11,6 +11,8 @@ pub struct Original {
     quarantine: Quarantine,
     /// Every hash that a guard was recorded for, so that guards are counted only where 64 may be held.
     guarded: BTreeSet<Hash>,
+    /// Whether it takes any number of frames and of guards, as the Rust does.
+    unlimited: bool,
 }
 
 /// The ticket rides in `received_unix_ms`.
@@ -94,6 +96,11 @@ fn tickets(frames: Vec<ParkedFrame>) -> Answer {
 }
 
 impl Original {
+    /// Without the limits of 64 frames and 64 guards.
+    pub fn unlimited() -> Self {
+        Original { unlimited: true, ..Original::default() }
+    }
+
     pub fn is_empty(&self) -> bool {
         self.quarantine.is_empty()
     }
@@ -102,7 +109,7 @@ impl Original {
         if f.claim > f.expected && f.claim - f.expected > 16 {
             return Answer::Refused(1);
         }
-        if self.quarantine.len() >= 64 {
+        if !self.unlimited && self.quarantine.len() >= 64 {
             return Answer::Refused(2);
         }
         Answer::Total(self.quarantine.push(parked(f)) as u64)
@@ -152,7 +159,7 @@ impl Original {
 
     /// 64 guards are held, and none of this hash.
     fn guards_full(&self, hash: Hash) -> bool {
-        if self.guarded.len() < 64 {
+        if self.unlimited || self.guarded.len() < 64 {
             return false;
         }
         let guards = dump(&self.quarantine).guards;

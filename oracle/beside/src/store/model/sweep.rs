@@ -40,7 +40,7 @@ impl Model {
             self.refuse_sweep(&turns, slice);
             return Answer::Refused(number);
         }
-        let start = self.clone();
+        let (start, listed) = (self.to_look_back_at(), self.listed(s));
         let mut first = None;
         let mut used = 0;
         let mut told = Vec::new();
@@ -57,12 +57,12 @@ impl Model {
                 _ => rows.len(),
             };
             told.push(rows.len());
-            first.get_or_insert_with(|| self.clone());
+            first.get_or_insert_with(|| self.to_look_back_at());
             if self.ends_sweep(entries, rows.len()) {
                 break;
             }
         }
-        let total = self.told(&told, turns.len(), start.listed(s));
+        let total = self.told(&told, turns.len(), listed);
         self.store_after_sweep(start, first);
         if self.plants(Wrong::SweepPastCleared) {
             slice.iter_mut().skip(WIDTH * total).for_each(|number| *number = 0);
@@ -187,7 +187,7 @@ impl Model {
     }
 
     fn poll_in_turn(&mut self, turn: &Turn) -> Vec<Row> {
-        let start = self.guards.clone();
+        let start = self.guards_to_look_back_at();
         let poll = Poll { form: Form::Long, swept: true, head: turn.head, known: turn.known, content: None, start };
         self.poll_sender(turn.sender, &poll).iter().map(row).collect()
     }
