@@ -146,6 +146,9 @@ module _ (owner : Bytes → Key) where
   abbrev pub OwnedCall : Call → Type 0
   OwnedCall c = (f : Frame) → c ≡ push f → OwnedFrame f
 
+  abbrev pub OwnedCalls : List Call → Type 0
+  OwnedCalls = Each OwnedCall
+
   pub record Good (s : Ideal) : Type 0 where
     pub sorted : Sorted (s .entries)
     pub owned : Owned (s .entries)

@@ -12,7 +12,7 @@ use Rattle.store_rules.specs.Frames.{Entry}
 use Rattle.store_rules.specs.Store.{NotBefore, Call, Answer}
 use Rattle.order_rule.specs.Orders.{Key, sender, alone, eqKey, keyBy, concerns, isFor, ofKey, Keyed, nothing, also}
 use Rattle.order_rule.proofs.Ideal.{Ideal, stepᵢ, runᵢ, transcriptᵢ}
-use Rattle.order_rule.proofs.Invariant.{OwnedCall, Good}
+use Rattle.order_rule.proofs.Invariant.{OwnedCalls, Good}
 use Rattle.order_rule.proofs.Shard.{shard, ourAnswer, ourLines, OurCalls, shard-run, shard-transcript}
 
 -- ---- keys
@@ -50,14 +50,12 @@ none-kept a b n (e ∷ es) h = go (eqBytes (e .frame .from) a) refl (none-kept a
     go false p ih = rw (mine-is a e p) ih
 
 module _ (owner : Bytes → Key) where
-  abbrev KeyOf : Call → Option Key
+  -- the key of a call, and of a call with its answer
+  abbrev pub KeyOf : Call → Option Key
   KeyOf = keyBy owner
 
-  abbrev KeyOfʰ : Call × Answer → Option Key
+  abbrev pub KeyOfʰ : Call × Answer → Option Key
   KeyOfʰ t = keyBy owner (t .0)
-
-  abbrev OwnedCalls : List Call → Type 0
-  OwnedCalls = Each (OwnedCall owner)
 
   pub keyed-transcript : (s : Ideal) {cs : List Call} → Keyed KeyOf cs → Keyed KeyOfʰ (transcriptᵢ s cs)
   unfolding transcriptᵢ
@@ -90,7 +88,7 @@ module _ (owner : Bytes → Key) where
     keyed-lines nothing = refl
     keyed-lines (also j e r) = rw (e, keyed-lines r)
 
-    module _ (s : Ideal) (h : Good owner s) {cs : List Call} (keyed : Keyed KeyOf cs) (o : OwnedCalls cs) where
+    module _ (s : Ideal) (h : Good owner s) {cs : List Call} (keyed : Keyed KeyOf cs) (o : OwnedCalls owner cs) where
       pub part-run : runᵢ (part s) (ofKey KeyOf k cs) ≡ part (runᵢ s cs)
       part-run = ap (runᵢ (part s)) (sym (keyed-calls keyed)) ∙ shard-run owner Is s h cs o
 

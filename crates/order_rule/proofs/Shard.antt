@@ -20,7 +20,7 @@ use Rattle.store_rules.proofs.Lookups.{lookup-nil, enter-cons, enter-none, look
 use Rattle.store_rules.specs.Store.{NotBefore, Sorted, Call, push, poll, guard, enterTentative, evictSender, checkReorg, checkFinalized, Answer, total, rows, recorded, entered, frames, dead, refused, after, insert, fresh, inputRefusal}
 use Rattle.order_rule.specs.Orders.{Key, sender, keyBy, concerns, shown}
 use Rattle.order_rule.proofs.Ideal.{Ideal, Guards, without, with′, dropIf, Trail, behind, trail, trailed, effectᵢ, unlessᵢ, stepᵢ, runᵢ, transcriptᵢ}
-use Rattle.order_rule.proofs.Invariant.{OwnedFrame, Owned, OwnedCall, Good, step-good}
+use Rattle.order_rule.proofs.Invariant.{OwnedFrame, Owned, OwnedCalls, Good, step-good}
 use Rattle.order_rule.proofs.Listed.{About, AboutRule, about-onlyOf, lists-own, trail-lists, frameOf, rowOf, deadOf, about-poll, about-evict, about-reorg, about-final}
 
 -- what a call leaves, and what it answers but for a push's total
@@ -348,7 +348,7 @@ module _ (owner : Bytes → Key) (p : Key → Bool) where
   ourLines [] = []
   ourLines (t ∷ ts) = cond (concerns p (keyBy owner (t .0))) ((t .0, ourAnswer (keyBy owner (t .0)) (t .1)) ∷ ourLines ts) (ourLines ts)
 
-  pub shard-run : (s : Ideal) → Good owner s → (cs : List Call) → Each (OwnedCall owner) cs → runᵢ (shard s) (OurCalls cs) ≡ shard (runᵢ s cs)
+  pub shard-run : (s : Ideal) → Good owner s → (cs : List Call) → OwnedCalls owner cs → runᵢ (shard s) (OurCalls cs) ≡ shard (runᵢ s cs)
   unfolding runᵢ keep
   shard-run s h [] o = refl
   shard-run s h (c ∷ cs) o = go (concerns p (keyBy owner c)) refl ∙ shard-run (stepᵢ s c .0) (step-good owner s c (o .0) h) cs (o .1)
@@ -357,7 +357,7 @@ module _ (owner : Bytes → Key) (p : Key → Bool) where
       go true y = ap (λ (r : Ideal × Answer). runᵢ (r .0) (OurCalls cs)) (own-step s h c y)
       go false n = ap (λ (t : Ideal). runᵢ t (OurCalls cs)) (sym (other-step s h c n))
 
-  pub shard-transcript : (s : Ideal) → Good owner s → (cs : List Call) → Each (OwnedCall owner) cs → transcriptᵢ (shard s) (OurCalls cs) ≡ ourLines (transcriptᵢ s cs)
+  pub shard-transcript : (s : Ideal) → Good owner s → (cs : List Call) → OwnedCalls owner cs → transcriptᵢ (shard s) (OurCalls cs) ≡ ourLines (transcriptᵢ s cs)
   unfolding transcriptᵢ keep ourLines
   shard-transcript s h [] o = refl
   shard-transcript s h (c ∷ cs) o =

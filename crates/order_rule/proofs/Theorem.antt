@@ -7,11 +7,10 @@ use Rattle.lists.specs.Bytes.{Bytes}
 use Rattle.store_rules.specs.Store.{Store, Sorted, Call, push, Request, Answer, effect, refusal, unless, step}
 use Rattle.order_rule.specs.Orders.{Key, ownerIn, pushesOf, keyBy, SameCalls, TwoOrders, rest, cut, shown, InAnyOrder}
 use Rattle.store_rules.specs.Frames.{Entry}
-use Rattle.lists.specs.Lists.{Each}
 use Rattle.lists.proofs.Keeping.{each-append, each-of}
 use Rattle.order_rule.proofs.Ideal.{Ideal, view, stepᵢ, runᵢ, transcriptᵢ, seen, effect-view, same-view}
-use Rattle.order_rule.proofs.Invariant.{effect-sorted, OwnedFrame, OwnedCall, Good, step-good}
-use Rattle.order_rule.proofs.Part.{part, keyed-transcript, part-run, part-transcript}
+use Rattle.order_rule.proofs.Invariant.{effect-sorted, OwnedFrame, OwnedCall, OwnedCalls, Good, step-good}
+use Rattle.order_rule.proofs.Part.{KeyOf, KeyOfʰ, part, keyed-transcript, part-run, part-transcript}
 use Rattle.order_rule.proofs.Whole.{whole}
 use Rattle.order_rule.proofs.Owner.{orders-mem, owned-call, mem-pushes}
 
@@ -28,29 +27,20 @@ transcript-append s [] ds = refl
 transcript-append s (c ∷ cs) ds = ap (λ (l : List (Call × Answer)). (c, shown (stepᵢ s c .1)) ∷ l) (transcript-append (stepᵢ s c .0) cs ds)
 
 module _ (owner : Bytes → Key) where
-  abbrev KeyOf : Call → Option Key
-  KeyOf = keyBy owner
-
-  abbrev KeyOfʰ : Call × Answer → Option Key
-  KeyOfʰ t = keyBy owner (t .0)
-
-  abbrev OwnedCalls : List Call → Type 0
-  OwnedCalls = Each (OwnedCall owner)
-
-  pub run-good : (s : Ideal) (cs : List Call) → OwnedCalls cs → Good owner s → Good owner (runᵢ s cs)
+  pub run-good : (s : Ideal) (cs : List Call) → OwnedCalls owner cs → Good owner s → Good owner (runᵢ s cs)
   unfolding runᵢ
   run-good s [] o h = h
   run-good s (c ∷ cs) o h = run-good (stepᵢ s c .0) cs (o .1) (step-good owner s c (o .0) h)
 
   -- ---- between two calls without a key
 
-  module _ (s : Ideal) (h : Good owner s) {xs ys : List Call} (same : SameCalls KeyOf xs ys) (o : OwnedCalls xs) (p : OwnedCalls ys) where
+  module _ (s : Ideal) (h : Good owner s) {xs ys : List Call} (same : SameCalls (KeyOf owner) xs ys) (o : OwnedCalls owner xs) (p : OwnedCalls owner ys) where
     same-run : runᵢ s xs ≡ runᵢ s ys
     same-run =
         whole owner (runᵢ s xs) (runᵢ s ys) (run-good s xs o h .sorted) (run-good s ys p h .sorted)
         (λ k. sym (part-run owner k s h (same .keyed .0) o) ∙ ap (runᵢ (part owner k s)) (same .same k) ∙ part-run owner k s h (same .keyed .1) p)
 
-    same-transcript : SameCalls KeyOfʰ (transcriptᵢ s xs) (transcriptᵢ s ys)
+    same-transcript : SameCalls (KeyOfʰ owner) (transcriptᵢ s xs) (transcriptᵢ s ys)
     same-transcript = record {
       keyed = (keyed-transcript owner s (same .keyed .0), keyed-transcript owner s (same .keyed .1));
       same = λ k. sym (part-transcript owner k s h (same .keyed .0) o) ∙ ap (transcriptᵢ (part owner k s)) (same .same k) ∙ part-transcript owner k s h (same .keyed .1) p;
@@ -59,24 +49,24 @@ module _ (owner : Bytes → Key) where
   -- ---- two orders, on an ideal store
 
   abbrev Agree : Ideal → List Call → List Call → Type 0
-  Agree s xs ys = (runᵢ s xs ≡ runᵢ s ys) × TwoOrders KeyOfʰ (transcriptᵢ s xs) (transcriptᵢ s ys)
+  Agree s xs ys = (runᵢ s xs ≡ runᵢ s ys) × TwoOrders (KeyOfʰ owner) (transcriptᵢ s xs) (transcriptᵢ s ys)
 
   -- one stretch, a call without a key, and what comes after it
-  module _ (s : Ideal) (h : Good owner s) {ls rs : List Call} (same : SameCalls KeyOf ls rs) (o : OwnedCalls ls) (p : OwnedCalls rs)
-      (g : Call) (e : KeyOf g ≡ none) (xs ys : List Call) (later : Agree (stepᵢ (runᵢ s ls) g .0) xs ys) where
+  module _ (s : Ideal) (h : Good owner s) {ls rs : List Call} (same : SameCalls (KeyOf owner) ls rs) (o : OwnedCalls owner ls) (p : OwnedCalls owner rs)
+      (g : Call) (e : KeyOf owner g ≡ none) (xs ys : List Call) (later : Agree (stepᵢ (runᵢ s ls) g .0) xs ys) where
     joined-run : runᵢ s (ls ++ g ∷ xs) ≡ runᵢ s (rs ++ g ∷ ys)
     unfolding runᵢ
     joined-run =
         run-append s ls (g ∷ xs) ∙ later .0 ∙ ap (λ (t : Ideal). runᵢ t (g ∷ ys)) (same-run s h same o p) ∙ sym (run-append s rs (g ∷ ys))
 
-    joined-transcript : TwoOrders KeyOfʰ (transcriptᵢ s (ls ++ g ∷ xs)) (transcriptᵢ s (rs ++ g ∷ ys))
+    joined-transcript : TwoOrders (KeyOfʰ owner) (transcriptᵢ s (ls ++ g ∷ xs)) (transcriptᵢ s (rs ++ g ∷ ys))
     unfolding transcriptᵢ
     joined-transcript =
-        subst₂ (TwoOrders KeyOfʰ) (sym (transcript-append s ls (g ∷ xs)))
+        subst₂ (TwoOrders (KeyOfʰ owner)) (sym (transcript-append s ls (g ∷ xs)))
         (ap (λ (t : Ideal). transcriptᵢ s rs ++ transcriptᵢ t (g ∷ ys)) (same-run s h same o p) ∙ sym (transcript-append s rs (g ∷ ys)))
         (cut (same-transcript s h same o p) e (later .1))
 
-  two-orders : (s : Ideal) → Good owner s → {xs ys : List Call} → TwoOrders KeyOf xs ys → OwnedCalls xs → OwnedCalls ys → Agree s xs ys
+  two-orders : (s : Ideal) → Good owner s → {xs ys : List Call} → TwoOrders (KeyOf owner) xs ys → OwnedCalls owner xs → OwnedCalls owner ys → Agree s xs ys
   two-orders s h (rest same) o p = (same-run s h same o p, rest (same-transcript s h same o p))
   two-orders s h (cut {s = ls} {t = rs} {xs = xs} {ys = ys} {g = g} same e more) o p =
       let o′ = each-append (OwnedCall owner) ls (g ∷ xs) o in

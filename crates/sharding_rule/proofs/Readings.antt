@@ -122,10 +122,10 @@ module _ (owner : Bytes → Key) (shardOf : Key → ℕ) (last : ℕ) (bound : (
       ∙ keep-keep (λ e. eqb (shardOf (sender (e .frame .from))) (shardOf (sender a))) (λ e. eqBytes (e .frame .from) a)
       (λ e q. eq-eqb _ _ (ap (λ (b : Bytes). shardOf (sender b)) (eqBytes-true (e .frame .from) a q))) (one .entries))
 
-  abbrev GuardedIn : Store → Entry → Bool
-  GuardedIn t e = isGuarded (guardOf (e .frame .hash) (t .guards))
+  abbrev HasGuardIn : Store → Entry → Bool
+  HasGuardIn t e = isGuarded (guardOf (e .frame .hash) (t .guards))
 
-  same-guard : (a : Bytes) (e : Entry) → eqBytes (e .frame .from) a ≡ true → owner (e .frame .hash) ≡ sender (e .frame .from) → GuardedIn one e ≡ GuardedIn (At (shardOf (sender a))) e
+  same-guard : (a : Bytes) (e : Entry) → eqBytes (e .frame .from) a ≡ true → owner (e .frame .hash) ≡ sender (e .frame .from) → HasGuardIn one e ≡ HasGuardIn (At (shardOf (sender a))) e
   same-guard a e q o =
       ap isGuarded (sym (s .guards (shardOf (sender a)) (bound (sender a)) (e .frame .hash)
       ∙ ap (λ (b : Bool). cond b (guardOf (e .frame .hash) (one .guards)) none) (eq-eqb _ _ (ap shardOf (o ∙ ap sender (eqBytes-true (e .frame .from) a q))))))
@@ -134,9 +134,9 @@ module _ (owner : Bytes → Key) (shardOf : Key → ℕ) (last : ℕ) (bound : (
   unfolding hasGuardForSender entriesOf
   guarded a =
       ap (λ (l : List Entry). not (isEmpty l))
-      (keep-on (GuardedIn one) (GuardedIn (At (shardOf (sender a)))) (entriesOf a (one .entries))
-      (each-kept (λ e. eqBytes (e .frame .from) a) _ (λ e. GuardedIn one e ≡ GuardedIn (At (shardOf (sender a))) e) (same-guard a) (one .entries) (s .owned))
-      ∙ ap (keep (GuardedIn (At (shardOf (sender a))))) (own a))
+      (keep-on (HasGuardIn one) (HasGuardIn (At (shardOf (sender a)))) (entriesOf a (one .entries))
+      (each-kept (λ e. eqBytes (e .frame .from) a) _ (λ e. HasGuardIn one e ≡ HasGuardIn (At (shardOf (sender a))) e) (same-guard a) (one .entries) (s .owned))
+      ∙ ap (keep (HasGuardIn (At (shardOf (sender a))))) (own a))
 
   reads : Reads owner shardOf last At one
   unfolding stateOf expectedBoundary len tentativeCount poolKnownGap

@@ -9,7 +9,7 @@ use lib.Dec.{eqb, ltb}
 use lib.ListN.{length}
 use borrow.Author.Tests.{ltb-false, le-ltb}
 use Rattle.lists.specs.Bytes.{Bytes}
-use Rattle.lists.specs.Lists.{keep, Each, collect}
+use Rattle.lists.specs.Lists.{keep, collect}
 use Rattle.lists.proofs.Keeping.{keep-append, each-append, each-of}
 use Rattle.lists.proofs.Writing.{collect-append}
 use Rattle.store_rules.specs.Frames.{Entry}
@@ -18,7 +18,7 @@ use Rattle.store_rules.specs.Store.{Store, empty, Call, poll, when, unless}
 use Rattle.store_rules.specs.Sweeps.{Sweep, pollsOf, sweepInputRefusal, listedEntries, sweepRoomRefusal, sweepRefusal, sweepEffect, sweepStep, Item, single, sweep, stepItem, runItems}
 use Rattle.order_rule.specs.Orders.{Key, sender, ownerIn, keyBy, concerns, aboutRoom, unrefused, callsOf, callsRead, RoomFor}
 use Rattle.order_rule.proofs.Ideal.{view, runᵢ}
-use Rattle.order_rule.proofs.Invariant.{OwnedCall, Good}
+use Rattle.order_rule.proofs.Invariant.{OwnedCall, OwnedCalls, Good}
 use Rattle.order_rule.proofs.Shard.{shard, shard-run}
 use Rattle.order_rule.proofs.Theorem.{run-good}
 use Rattle.order_rule.proofs.Owner.{owned-call}
@@ -126,7 +126,7 @@ module _ (owner : Bytes → Key) (shardOf : Key → ℕ) (n : ℕ) where
         go none e = (sweep-room w e r, tt)
 
     -- and is, after it, the shard of the one store after the item
-    item-shard : (i : Item) → Each (OwnedCall owner) (callsOf i) → aboutRoom (stepItem s i .1) ≡ false → view (runItems t (For i)) ≡ shard owner Of (view (stepItem s i .0))
+    item-shard : (i : Item) → OwnedCalls owner (callsOf i) → aboutRoom (stepItem s i .1) ≡ false → view (runItems t (For i)) ≡ shard owner Of (view (stepItem s i .0))
     unfolding goesTo
     item-shard i o r =
         sym (items-view t (For i) (item-room i r) .0) ∙ ap₂ runᵢ is (item-is-read i) ∙ shard-run owner Of (view s) h (callsOf i) o
@@ -141,7 +141,7 @@ module _ (owner : Bytes → Key) (shardOf : Key → ℕ) (n : ℕ) where
   one-guard : (t : Store) → Reached t → OneGuardAHash (t .guards)
   one-guard t r = subst (λ (s : Store). OneGuardAHash (s .guards)) (r .1) (every-run (r .0) .oneGuard)
 
-  rooms : (s t : Store) → Good owner (view s) → view t ≡ shard owner Of (view s) → Reached t → (is : List Item) → Each (OwnedCall owner) (callsRead is) → RoomFor s is →
+  rooms : (s t : Store) → Good owner (view s) → view t ≡ shard owner Of (view s) → Reached t → (is : List Item) → OwnedCalls owner (callsRead is) → RoomFor s is →
       RoomFor t (itemsFor KeyOf shardOf n is)
   unfolding callsRead collect itemsFor
   rooms s t h e r [] o room = tt

@@ -8,7 +8,7 @@ use mathlib.Core.Option.{Option, none, some}
 use lib.Dec.{eqb}
 use lib.ListN.{length}
 use Rattle.lists.specs.Bytes.{Bytes, eqBytes}
-use Rattle.lists.specs.Lists.{keep, Each}
+use Rattle.lists.specs.Lists.{keep}
 use Rattle.lists.proofs.ByteOrder.{eqBytes-refl}
 use Rattle.lists.proofs.Keeping.{each-of}
 use Rattle.store_rules.specs.Frames.{Frame, Entry, Guard, Dead}
@@ -18,7 +18,7 @@ use Rattle.store_rules.specs.Sweeps.{Item, runItems}
 use Rattle.store_rules.specs.Totals.{totals}
 use Rattle.order_rule.specs.Orders.{Key, sender, eqKey, pushOf, ownerBy, ownerIn, keyBy, shown, callsRead, transcriptRead, RoomFor}
 use Rattle.order_rule.proofs.Ideal.{Ideal, Guards, view, trail, trailed, effectᵢ, unlessᵢ, stepᵢ, runᵢ, transcriptᵢ, seen, effect-view}
-use Rattle.order_rule.proofs.Invariant.{OwnedCall, Good, step-good}
+use Rattle.order_rule.proofs.Invariant.{OwnedCall, OwnedCalls, Good, step-good}
 use Rattle.order_rule.proofs.Listed.{Ascends, trail-ascends, about-reorg, about-final, frameOf, deadOf}
 use Rattle.order_rule.proofs.Shard.{ours, only, shard, ourList, ourAnswer, ourLines, shard-run, shard-transcript}
 use Rattle.order_rule.proofs.Theorem.{run-good}
@@ -92,9 +92,6 @@ module _ (owner : Bytes → Key) (shardOf : Key → ℕ) (last : ℕ) (bound : (
   abbrev Of : ℕ → Key → Bool
   Of n k = eqb (shardOf k) n
 
-  abbrev OwnedCalls : List Call → Type 0
-  OwnedCalls = Each (OwnedCall owner)
-
   -- what a shard has of a list
   abbrev PartOf : {A : Type 0} → (A → Bytes) → List A → ℕ → List A
   PartOf at l n = By at (λ a. Of n (sender a)) l
@@ -120,7 +117,7 @@ module _ (owner : Bytes → Key) (shardOf : Key → ℕ) (last : ℕ) (bound : (
       gather-dead last (PartOf (λ d. d .frame .from) l)
       ∙ ap dead (parts-merge (λ d. d .frame .from) l (trail-ascends deadOf (finalRule m) (about-final m) (t .entries) (t .guards) (h .sorted)))
 
-  merged : (t : Ideal) → Good owner t → (cs : List Call) → OwnedCalls cs → MergedFrom KeyOf shardOf last (λ n. ourLines owner (Of n) (transcriptᵢ t cs)) (transcriptᵢ t cs)
+  merged : (t : Ideal) → Good owner t → (cs : List Call) → OwnedCalls owner cs → MergedFrom KeyOf shardOf last (λ n. ourLines owner (Of n) (transcriptᵢ t cs)) (transcriptᵢ t cs)
   unfolding transcriptᵢ ourLines goesTo
   merged t h [] o = nothing (λ n l. refl)
   merged t h (c ∷ cs) o =
@@ -132,7 +129,7 @@ module _ (owner : Bytes → Key) (shardOf : Key → ℕ) (last : ℕ) (bound : (
 
   -- ---- runs from an empty store
 
-  module _ (cs : List Call) (owned : OwnedCalls cs) (sent : ℕ → List Item) (read : (n : ℕ) → n ≤ last → callsRead (sent n) ≡ callsFor KeyOf shardOf n cs)
+  module _ (cs : List Call) (owned : OwnedCalls owner cs) (sent : ℕ → List Item) (read : (n : ℕ) → n ≤ last → callsRead (sent n) ≡ callsFor KeyOf shardOf n cs)
       (room : (n : ℕ) → n ≤ last → RoomFor empty (sent n)) where
     -- the one ideal run
     abbrev One : Ideal
@@ -188,7 +185,7 @@ module _ (owner : Bytes → Key) (shardOf : Key → ℕ) (last : ℕ) (bound : (
 
 -- ---- the rule
 
-shardable : (owner : Bytes → Key) (cs : List Call) → Each (OwnedCall owner) cs → Shardable owner cs
+shardable : (owner : Bytes → Key) (cs : List Call) → OwnedCalls owner cs → Shardable owner cs
 shardable owner cs owned shardOf last sent bound read room = (
   conclude owner shardOf last bound cs owned sent read room (unlimitedRun empty cs) (unlimitedTranscript empty cs) (unlimited-run empty cs) (unlimited-transcript empty cs),
   λ is e h. let r = items-view empty is h in

@@ -133,7 +133,7 @@ impl Maker {
     fn count(&mut self, call: &Call, answer: &Answer) {
         let left: Vec<u64> = match (call, answer) {
             (Call::Push(f), Answer::Total(_)) => {
-                self.held[self.shards.place(&f.from)] += 1;
+                self.held[self.shards.shard_of(&f.from)] += 1;
                 return;
             }
             (_, Answer::Rows(rows)) => rows.iter().filter(|row| row[1] == 1).map(|row| row[0]).collect(),
@@ -142,7 +142,7 @@ impl Maker {
             (_, Answer::Dead(list)) => list.iter().map(|(ticket, _)| *ticket).collect(),
             _ => return,
         };
-        left.iter().for_each(|ticket| self.held[self.shards.place(&self.tickets[ticket])] -= 1);
+        left.iter().for_each(|ticket| self.held[self.shards.shard_of(&self.tickets[ticket])] -= 1);
     }
 
     // ---- picks
@@ -215,7 +215,7 @@ impl Maker {
             }
             _ => {}
         }
-        if self.held[self.shards.place(&f.from)] >= ROOM && !self.careless {
+        if self.held[self.shards.shard_of(&f.from)] >= ROOM && !self.careless {
             return self.poll();
         }
         self.make(Call::Push(f));

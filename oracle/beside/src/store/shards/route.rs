@@ -14,7 +14,7 @@ pub struct Shards {
 
 impl Shards {
     /// The shard of these bytes. Any function of a sender does, as long as the sender stays.
-    pub fn place(&self, bytes: &[u8]) -> usize {
+    pub fn shard_of(&self, bytes: &[u8]) -> usize {
         let mixed = bytes.chunks(8).fold(self.way, |sum, chunk| {
             let number = chunk.iter().fold(0, |number, byte| number << 8 | u64::from(*byte));
             Random::new(sum ^ number).draw()
@@ -127,7 +127,7 @@ impl Router<'_> {
     /// The shard of a call that is a sender's, or about a hash.
     fn one(&self, call: &Call) -> Option<usize> {
         match call {
-            Call::Push(f) if self.plants(Wrong::PushByHash) => Some(self.shards.place(&f.hash)),
+            Call::Push(f) if self.plants(Wrong::PushByHash) => Some(self.shards.shard_of(&f.hash)),
             Call::Push(f) if self.plants(Wrong::PushTwoShards) => Some(self.or_next(f.from, self.now % 2 == 1)),
             Call::Push(f) => Some(self.of_sender(&f.from)),
             Call::Poll { form: Form::Long, sender, .. } => Some(self.unless(*sender, Wrong::PollOfNext)),
@@ -136,7 +136,7 @@ impl Router<'_> {
             Call::KnownGap { sender, .. } => Some(self.unless(*sender, Wrong::KnownGapOfNext)),
             Call::HasGuard(sender) => Some(self.unless(*sender, Wrong::HasGuardOfNext)),
             Call::Guard(g) if self.plants(Wrong::GuardBeforePush) && !self.pushed_before(&g.hash) => {
-                Some(self.shards.place(&g.hash))
+                Some(self.shards.shard_of(&g.hash))
             }
             Call::Guard(g) => Some(self.of_hash(&g.hash, Wrong::GuardByHash)),
             Call::Enter { hash, .. } => Some(self.of_hash(hash, Wrong::EnterByHash)),
@@ -149,7 +149,7 @@ impl Router<'_> {
     fn of_sender(&self, sender: &[u8]) -> usize {
         let later = self.now >= self.calls.len() / 2;
         let less = usize::from(self.plants(Wrong::Resharded) && later && self.shards.count > 1);
-        Shards { count: self.shards.count - less, ..self.shards }.place(sender)
+        Shards { count: self.shards.count - less, ..self.shards }.shard_of(sender)
     }
 
     /// The sender's shard, or the one behind it.
@@ -166,7 +166,7 @@ impl Router<'_> {
     fn of_hash(&self, hash: &Hash, wrong: Wrong) -> usize {
         match self.owners.get(hash) {
             Some(sender) if !self.plants(wrong) => self.of_sender(sender),
-            _ => self.shards.place(hash),
+            _ => self.shards.shard_of(hash),
         }
     }
 
