@@ -85,7 +85,7 @@ transcriptᵢ s (c ∷ cs) = (c, shown (stepᵢ s c .1)) ∷ transcriptᵢ (step
 
 -- ---- guards by hash, in a list and as a function
 
-guardOf-drop : (h : Bytes) (gs : List Guard) (x : Bytes) → guardOf x (dropGuard h gs) ≡ cond (eqBytes h x) none (guardOf x gs)
+pub guardOf-drop : (h : Bytes) (gs : List Guard) (x : Bytes) → guardOf x (dropGuard h gs) ≡ cond (eqBytes h x) none (guardOf x gs)
 unfolding guardOf dropGuard keep
 guardOf-drop h [] x = none-either (eqBytes h x)
   where

@@ -1,18 +1,19 @@
 -- Guards of different hashes, each of which another list has, are no more than that list's (`no-more`).
 use Prim.Native.Nat.{suc, _≤_}
 use native.Mathlib.Omega.{arith}
-use mathlib.Core.Path.{_≡_, refl, sym, ap, _∙_}
+use mathlib.Core.Path.{_≡_, refl, ap, _∙_}
 use mathlib.Core.Bool.{Bool, true, false, not, cond, false≢true}
 use mathlib.Core.List.{List, [], _∷_}
 use mathlib.Core.Option.{some}
 use lib.ListN.{length}
 use Rattle.lists.specs.Bytes.{Bytes, eqBytes}
 use Rattle.lists.specs.Lists.{keep, isEmpty, Each}
-use Rattle.lists.proofs.ByteOrder.{eqBytes-true, eqBytes-of, eqBytes-refl, clash}
+use Rattle.lists.proofs.ByteOrder.{eqBytes-refl}
 use Rattle.lists.proofs.Keeping.{each-map, each-both}
 use Rattle.lists.proofs.Elements.{length-keep}
 use Rattle.store_rules.specs.Frames.{Guard}
 use Rattle.store_rules.specs.Store.{guardOf, isGuarded, dropGuard}
+use Rattle.order_rule.proofs.Ideal.{guardOf-drop}
 use Rattle.store_laws.proofs.Reachable.{OneGuardAHash}
 
 -- a list has a guard of this one's hash
@@ -20,16 +21,7 @@ abbrev pub GuardedIn : List Guard → Guard → Type 0
 GuardedIn gs g = isGuarded (guardOf (g .hash) gs) ≡ true
 
 drop-other : (h x : Bytes) → eqBytes h x ≡ false → (gs : List Guard) → guardOf x (dropGuard h gs) ≡ guardOf x gs
-unfolding guardOf dropGuard keep
-drop-other h x n [] = refl
-drop-other h x n (g ∷ gs) = go (eqBytes (g .hash) h) refl (eqBytes (g .hash) x) refl (drop-other h x n gs)
-  where
-    go : (b : Bool) → eqBytes (g .hash) h ≡ b → (c : Bool) → eqBytes (g .hash) x ≡ c → guardOf x (dropGuard h gs) ≡ guardOf x gs →
-        guardOf x (cond (not b) (g ∷ dropGuard h gs) (dropGuard h gs)) ≡ cond c (some g) (guardOf x gs)
-    go true p true q ih = clash (eqBytes-of h x (sym (eqBytes-true (g .hash) h p) ∙ eqBytes-true (g .hash) x q)) n
-    go true p false q ih = ih
-    go false p true q ih = rw q
-    go false p false q ih = rw q ih
+drop-other h x n gs = guardOf-drop h gs x ∙ rw n
 
 drop-shorter : (h : Bytes) (gs : List Guard) → isGuarded (guardOf h gs) ≡ true → suc (length (dropGuard h gs)) ≤ length gs
 unfolding guardOf dropGuard keep isGuarded

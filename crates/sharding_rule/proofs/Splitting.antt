@@ -23,10 +23,11 @@ use Rattle.order_rule.proofs.Shard.{shard, shard-run}
 use Rattle.order_rule.proofs.Theorem.{run-good}
 use Rattle.order_rule.proofs.Owner.{owned-call}
 use Rattle.order_rule.proofs.Sweeps.{items-view}
+use Rattle.store_laws.proofs.Refusals.{refused-unsound}
 use Rattle.store_laws.proofs.Reachable.{OneGuardAHash, every-run}
 use Rattle.sharding_rule.specs.Shards.{goesTo, callsFor}
 use Rattle.sharding_rule.specs.Splitting.{sweepOf, itemFor, itemsFor, SplitIsRead, SplittingRule}
-use Rattle.sharding_rule.proofs.Sweeps.{accepted, accepts, Part, part}
+use Rattle.sharding_rule.proofs.Sweeps.{Part, part}
 use Rattle.sharding_rule.proofs.Room.{own-entries, step-room}
 use Rattle.sharding_rule.proofs.Theorem.{good-empty, empty-shard, sharding-rule}
 
@@ -70,10 +71,10 @@ module _ (owner : Bytes → Key) (shardOf : Key → ℕ) (n : ℕ) where
 
   module _ (ours all : List Entry) (own : (a : Bytes) → OfSender a ≡ true → entriesOf a ours ≡ entriesOf a all) (w : Sweep) (e : sweepInputRefusal w ≡ none) where
     part-of : Part OfSender (goesTo KeyOf shardOf n) goes-by-sender ours all own (w .numbers) (w .senders) (w .heads) (w .counts) (w .nonces) (PartOf w)
-    part-of = part OfSender (goesTo KeyOf shardOf n) goes-by-sender ours all own (w .numbers) (w .senders) (w .heads) (w .counts) (w .nonces) (accepted w e .1)
+    part-of = part OfSender (goesTo KeyOf shardOf n) goes-by-sender ours all own (w .numbers) (w .senders) (w .heads) (w .counts) (w .nonces) (refused-unsound w .sound e)
 
     part-accepted : sweepInputRefusal (PartOf w) ≡ none
-    part-accepted = accepts (PartOf w) (omega (arith, part-of .fewer, accepted w e .0)) (part-of .fits)
+    part-accepted = refused-unsound (PartOf w) .accepted (part-of .sound)
 
   -- ---- what a shard is sent is read as its calls
 

@@ -6,18 +6,19 @@ use mathlib.Core.Bool.{Bool, true, false, cond, true≢false}
 use mathlib.Core.List.{List, [], _∷_, _++_, map}
 use mathlib.Core.Option.{Option, none, some, orElse}
 use lib.Dec.{ltb}
-use lib.ListN.{length, take, drop, length-append}
+use lib.ListN.{length, take, drop}
 use Rattle.lists.specs.Bytes.{Bytes}
 use Rattle.lists.specs.Lists.{keep, Each, sum}
-use Rattle.lists.proofs.Keeping.{keep-append, each-map}
+use Rattle.lists.proofs.Keeping.{each-map}
 use Rattle.store_rules.specs.Frames.{Row}
 use Rattle.store_rules.specs.Answers.{numbersOf}
 use Rattle.store_rules.specs.Store.{Store, empty, Call, poll, long, Request, Answer, rows, refused, rowsOf, listed, when, unless, step}
 use Rattle.store_rules.specs.Sweeps.{Sweep, pollsFrom, lent, inTurn, pollsIn, rowsListed, sweepInputRefusal, listedEntries, sweepRoomRefusal, sweepRefusal, sweepEffect, sweepStep, Item, single, sweep, stepItem}
-use Rattle.store_rules.specs.Totals.{acceptedIn, isRescue, rescuedIn, deadIn, isEviction, evictedIn, answers, totals}
+use Rattle.store_rules.specs.Totals.{acceptedIn, rescuedIn, deadIn, isEviction, evictedIn, answers, totals}
 use Rattle.order_rule.specs.Orders.{shown, transcript, aboutRoom, unrefused, requestsOf, transcriptRead, RoomFor}
 use Rattle.order_rule.proofs.Ideal.{shown-same}
 use Rattle.order_rule.proofs.Sweeps.{AnswersRows, sweep-answers}
+use Rattle.store_laws.proofs.Totals.{rescues-append}
 use Rattle.sharding_rule.specs.Totals.{added, totalsTold, TotalsAreTold}
 
 -- ---- lines, added up
@@ -79,12 +80,8 @@ rescues-add : (s : Store) (qs : List Request) → rescuedIn (rows (rowsListed s 
 unfolding rescuedIn rowsOf rowsListed transcript added sum keep
 rescues-add s [] = refl
 rescues-add s (q ∷ qs) =
-    ap (λ (l : List Row). length l) (keep-append rescues (rowsOf (step s q .1)) (rowsListed (step s q .0) qs))
-    ∙ length-append (keep rescues (rowsOf (step s q .1))) (keep rescues (rowsListed (step s q .0) qs))
+    rescues-append (rowsOf (step s q .1)) (rowsListed (step s q .0) qs)
     ∙ ap₂ _+_ (sym (shown-same rescuedIn (λ n. refl) (step s q .1))) (rescues-add (step s q .0) qs)
-  where
-    rescues : Row → Bool
-    rescues r = isRescue (r .decision)
 
 module _ (is : List Item) (h : RoomFor empty is) where
   accepted-told : sum (map (λ x. acceptedIn (x .1)) (answers empty is)) ≡ added (λ t. acceptedIn (t .1)) (transcriptRead empty is)

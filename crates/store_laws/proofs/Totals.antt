@@ -47,10 +47,10 @@ module _ {A : Type 0} (count : List A → ℕ) where
 
 -- ---- the rules
 
-abbrev rescues : List Row → ℕ
+abbrev pub rescues : List Row → ℕ
 rescues l = rescuedIn (rows l)
 
-rescues-append : (xs ys : List Row) → rescues (xs ++ ys) ≡ rescues xs + rescues ys
+pub rescues-append : (xs ys : List Row) → rescues (xs ++ ys) ≡ rescues xs + rescues ys
 unfolding rescuedIn rowsOf
 rescues-append xs ys = rw (keep-append, length-append)
 
