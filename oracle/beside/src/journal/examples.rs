@@ -61,12 +61,12 @@ pub fn examples() -> Vec<Example> {
             holds: |f| (f.pending.len(), f.skipped, f.migrated, f.degraded, f.end) == (0, 0, 0, 0, 0),
         },
         Example {
-            says: "QP with a capital A in its text, then QR of that hash: pending 1",
+            says: "a QP whose text has a capital A, then a QR of its hash: one pending",
             journal: [capital.bytes(), resolve.bytes()].concat(),
             holds: |f| f.pending.len() == 1,
         },
         Example {
-            says: "QL with only frame hash and top nonce: migrated 1, degraded 1, expected = claimed",
+            says: "a QL of a frame hash and a top nonce alone: migrated 1, degraded 1, expected is claimed",
             journal: Record::Legacy(legacy()).bytes(),
             // claimed stands at 133, expected at 141
             holds: |f| (f.migrated, f.degraded) == (1, 1) && f.pending[0][133..141] == f.pending[0][141..149],

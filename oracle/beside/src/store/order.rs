@@ -1,6 +1,6 @@
 //! The order rule, tried on the Rust itself, with sender and place from the model: random lists of calls and legal reorderings.
-//! Its condition: the same reorganisation and finality calls stand in the same order, and before, between and after them
-//! each sender has the same calls in the same order. A guard or an entering is the call of the sender that pushes its hash. A sweep
+//! Its condition: reorganisations and finalities are the same and in one order, and in each stretch that they leave, every
+//! sender's calls are too. A guard or an entering is the call of the sender that pushes its hash. A sweep
 //! is read as its polls, and a refused one as no call: in one order it is made as a sweep, in the other its polls are made apart.
 use super::answers::{Answer, Row};
 use super::calls::{Address, Call, Hash, Side};

@@ -1,5 +1,5 @@
-//! B256 and Address: bytes in byte order; the text is 0x and lowercase digits; a text parses if, after at most one leading
-//! 0x, it is exactly the digits of the bytes, of either case. In JSON: such a text, or an array of the bytes.
+//! B256 and Address: bytes in byte order; the text is 0x and lowercase digits; a text is read with one 0x or none in front of
+//! the digits of the bytes, of either case. In JSON: such a text, or an array of the bytes.
 use crate::hex;
 use serde::de::{Deserialize, Deserializer, Error, SeqAccess, Visitor};
 use serde::ser::{Serialize, Serializer};
