@@ -94,8 +94,8 @@ module _ {A : Type 0} (keyOf : A → Option Key) where
     pub keyed : Keyed s × Keyed t
     pub same : (k : Key) → ofKey k s ≡ ofKey k t
 
-  -- In both lists the same reorganisation and finality calls stand in the same order, and before, between and after them each
-  -- sender has the same calls in the same order: the last stretch, or a stretch with the reorganisation or finality that ends it.
+  -- both lists have the same reorganisations and finalities in one order, which cut them into stretches that correspond: the last stretch,
+  -- or a stretch with the reorganisation or finality that ends it
   pub data TwoOrders : List A → List A → Type 0 where
     rest : {s t : List A} → SameCalls s t → TwoOrders s t
     cut : {s t xs ys : List A} {g : A} → SameCalls s t → keyOf g ≡ none → TwoOrders xs ys → TwoOrders (s ++ g ∷ xs) (t ++ g ∷ ys)
@@ -139,7 +139,7 @@ unfoldable pub unrefused : {A : Type 0} → Option ℕ → List A → List A
 unrefused none l = l
 unrefused (some n) l = []
 
--- the calls that an item is read as: a sweep as its polls, and a sweep refused with 3, 17 or 18 as no call
+-- the calls that an item is read as: a sweep as its polls, and as none if 3, 17 or 18 refuses it
 unfoldable pub callsOf : Item → List Call
 callsOf (single q) = q .call ∷ []
 callsOf (sweep w) = unrefused (sweepInputRefusal w) (pollsOf w)

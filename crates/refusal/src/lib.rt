@@ -25,8 +25,7 @@ pub enum Refusal {
     BadHashText,
     NoSender,
     NoWire,
-    // sweep: over 64 senders, sender bytes not 20 times the heads, or heads and counts of unequal length; counts not summing to
-    // the nonce list's length
+    // sweep: over 64 senders, or lists whose lengths do not go together; counts that do not sum to the number of nonces
     BadSweepLists,
     BadNonceCounts,
     // trace: unknown mark, bad byte, call cut short, or over 65,536 bytes

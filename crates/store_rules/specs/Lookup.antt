@@ -24,7 +24,7 @@ enters h e = hasHash h e && isTracked (e .standing .state)
 
 -- ---- lookup
 
--- whose an entry is: its sender, and its place among that sender's held entries in push order, counted from 0
+-- whose an entry is: its sender, and how many of that sender's held entries were pushed before it
 pub record Whose : Type 0 where
   pub sender : Bytes
   pub place : ℕ

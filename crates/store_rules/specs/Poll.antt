@@ -35,7 +35,7 @@ unfoldable pub firstIs : ℕ → Bytes → List ℕ → Bytes → Bool
 firstIs n h [] hashes = false
 firstIs n h (m ∷ ms) hashes = cond (eqb m n) (eqBytes (take 32 hashes) h) (firstIs n h ms (drop 32 hashes))
 
--- predecessors and guard hashes are paired up to the shorter list, and each pair is found so
+-- predecessors are paired with the guard's hashes as far as both go, and each pair is found so
 unfoldable pub contentsHold : List ℕ → Bytes → Content → Bool
 contentsHold [] hashes c = true
 contentsHold (n ∷ ns) [] c = true

@@ -47,7 +47,7 @@ unfoldable pub putGuard : Guard → List Guard → List Guard
 putGuard g [] = g ∷ []
 putGuard g (x ∷ xs) = cond (eqBytes (x .hash) (g .hash)) (g ∷ xs) (x ∷ putGuard g xs)
 
--- Two stores are equal when their entries in walk order, and their guards by hash, are.
+-- the same store: the walk meets the same entries, and each hash has the same guard
 pub record SameStore (s t : Store) : Type 0 where
   pub entries : s .entries ≡ t .entries
   pub guards : (h : Bytes) → guardOf h (s .guards) ≡ guardOf h (t .guards)

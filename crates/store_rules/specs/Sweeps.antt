@@ -54,7 +54,7 @@ rowsListed s (q ∷ qs) = rowsOf (step s q .1) ++ rowsListed (step s q .0) qs
 
 -- ---- its refusals, in their order
 
--- 17: over 64 senders, sender bytes not 20 times the heads, or heads and counts of unequal length
+-- 17: over 64 senders, not 20 sender bytes for each head, or not a count for each head
 unfoldable pub badLists : Bytes → List ℕ → List ℕ → Bool
 badLists senders heads counts =
     ltb 64 (length heads) || (not (eqb (length senders) (20 * length heads)) || not (eqb (length heads) (length counts)))

@@ -57,7 +57,7 @@ fromHex [] = []
 fromHex (a ∷ []) = []
 fromHex (a ∷ b ∷ t) = (16 * hexValue a + hexValue b) ∷ fromHex t
 
--- a text parses if, after at most one leading 0x, it is 64 hex digits of either case
+-- 64 hex digits, of either case, with one 0x or none in front
 unfoldable pub parses : Bytes → Bool
 parses t = eqb (length (unprefixed t)) 64 && allHex (unprefixed t)
 

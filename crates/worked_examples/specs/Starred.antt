@@ -29,7 +29,7 @@ pub record Starred : Type 0 where
   -- Reparked(empty; h; 5), head 8, any one pair: StillWaiting, count 0
   pub anyOnePair : (nonce : ℕ) (hash : Bytes) → length hash ≡ 32 →
       answer (push frameF ∷ repark [] ∷ []) (polledWith 8 [] (nonce ∷ []) hash) ≡ rows (row frameF stillWaiting [])
-  -- F degraded, none known, heads 5, 5, 4: row, no row, row; both rows list 5 6 7
+  -- a degraded F gives a row at head 5, none at 5 again, and one at 4; each row lists 5 6 7
   pub degradedHolds :
       (answer (push degradedF ∷ []) (polled 5 []) ≡ rows (row degradedF stillWaiting (5 ∷ 6 ∷ 7 ∷ [])))
       × (answer (push degradedF ∷ polled 5 [] ∷ []) (polled 5 []) ≡ rows [])
@@ -48,7 +48,7 @@ pub record Starred : Type 0 where
       × (answer (push frameF ∷ enterAt100 ∷ []) (checkReorg 100 none) ≡ frames (frameF ∷ []))
   -- QP with a capital A in its text, then QR of that hash: pending 1
   pub capitalKey : length (pendingIn (fold (parkBytes (parkWith full capitalText) ++ resolveBytes capitalHash))) ≡ 1
-  -- QL with only frame hash and top nonce: migrated 1, degraded 1, expected = claimed
+  -- a QL of a frame hash and a top nonce alone is migrated and degraded, and expects the nonce that it claims
   pub bareLegacy :
       (countsIn (fold (legacyBytes capitalHash 8)) ≡ some (record { skipped = 0; migrated = 1; degraded = 1 }))
       × (map (λ p. p .expected) (pendingIn (fold (legacyBytes capitalHash 8))) ≡ 8 ∷ [])
