@@ -2,10 +2,11 @@
 use std::path::Path;
 use std::{env, fs};
 
+#[path = "../given.rs"]
+mod given;
+
 fn main() {
-    println!("cargo:rerun-if-env-changed=QUARANTINE_SRC");
-    let folder = env::var("QUARANTINE_SRC").expect("QUARANTINE_SRC names the folder of the published files");
-    let folder = fs::canonicalize(&folder).unwrap_or_else(|e| panic!("QUARANTINE_SRC {folder}: {e}"));
+    let folder = given::path("QUARANTINE_SRC").expect("QUARANTINE_SRC names the folder of the published files");
     let mut modules = String::new();
     for name in ["gap_quarantine", "gap_quarantine_journal"] {
         let file = folder.join(format!("{name}.rs"));
