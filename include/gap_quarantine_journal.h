@@ -1,10 +1,34 @@
-/* The journal for C: its fold into the pending park records, the frame of one, and the writers of its five records. The
- * library is target/staticlib/libjournal_exports.a. */
+/*
+ * The journal for C and C++: its fold into the pending park records, the frame of one, and the writers of its five records. The
+ * library is target/staticlib/libjournal_exports.a, which links on x86-64 only. c/fold.c is an example.
+ *
+ * For each of the seven functions:
+ *
+ * - A slice is a pointer and a length. No pointer may be null, also where its length is 0.
+ * - A slice that is written must not overlap another slice.
+ * - Until the call returns, nothing else may write to a slice, or read a slice that is written.
+ * - The call needs at most 128 KiB of stack, GAP_QUARANTINE_STACK.
+ * - Nothing is kept from one call to the next, and several threads may call at once.
+ */
 #ifndef GAP_QUARANTINE_JOURNAL_H
 #define GAP_QUARANTINE_JOURNAL_H
 
 #include <stddef.h>
 #include <stdint.h>
+
+#ifdef __cplusplus
+extern "C" {
+#endif
+
+/*
+ * The stack that a thread needs at most for any of the calls, in bytes. It is measured (c/stack.c), not proved, and has a margin:
+ * 84 KiB in all are enough for a thread that folds, and 16 KiB, the smallest stack that a thread can have, for each of the other
+ * calls. No function recurses.
+ */
+#define GAP_QUARANTINE_STACK 131072
+
+/* The longest journal that a fold takes. */
+#define GAP_QUARANTINE_JOURNAL 65536
 
 /* What the 64 pending records take at most, what the totals take, and what a frame takes. */
 #define GAP_QUARANTINE_OUT 15360
@@ -21,7 +45,7 @@
 /*
  * Folds a journal. Returns 0 and writes the pending park records, 240 bytes each, to the front of `out`, and five numbers,
  * pending, skipped, migrated, degraded and end, as little-endian u64 to `totals`, which is 40 bytes long. Or returns a
- * refusal's number + 256 * its offset, and writes nothing. The slices must not overlap.
+ * refusal's number + 256 * its offset, and writes nothing.
  */
 uint64_t gap_quarantine_fold(const uint8_t *journal, size_t journal_len, uint8_t *out, size_t out_len, uint8_t *totals,
                              size_t totals_len);
@@ -29,20 +53,20 @@ uint64_t gap_quarantine_fold(const uint8_t *journal, size_t journal_len, uint8_t
 /*
  * Restores the frame of one park record. Returns 0 and writes to `frame`, which is 92 bytes long, the hash (32 bytes), the
  * address (20), and expected, claim, chain_id, gas and ticket as little-endian u64. Or returns a refusal's number, and writes
- * nothing. The slices must not overlap.
+ * nothing.
  */
 uint64_t gap_quarantine_restore(const uint8_t *record, size_t record_len, uint8_t *frame, size_t frame_len);
 
 /*
  * The writers. Each writes one record to the front of `out`, leaves what lies past it as it was, and returns 256 * the
  * record's length. Or it writes nothing and returns 11, if an argument is not as said here, or else 13, if `out` is shorter
- * than the record. No pointer may be null, also where its length is 0, and `out` must not overlap another slice.
+ * than the record.
  *
  * - `version` is at most 2.
  * - A hash is 32 bytes, an address (`from`, `sender`) 20. An optional one that is absent is given with length 0.
  * - `kind` is 1 if the nonce was consumed by the frame itself, mined, and 2 if its slot was taken; `block_hash` is a hash
  *   then, and `by` an optional one. It is 0 if neither is known; `block`, `block_hash` and `by` are not looked at then.
- * - `wire`, `list`, `rest` and each `has_` are 0 or 1. Where a `has_` is 0, the number behind it is absent and is not looked
+ * - `wire`, `list`, `rest` and each `has_` are 0 or 1. Where a `has_` is 0, the number after it is absent and is not looked
  *   at.
  */
 
@@ -86,5 +110,9 @@ uint64_t gap_quarantine_write_legacy(const uint8_t *frame_hash, size_t frame_has
 
 /* QX, a line that is none of these. */
 uint64_t gap_quarantine_write_other(uint64_t ticket, uint8_t *out, size_t out_len);
+
+#ifdef __cplusplus
+}
+#endif
 
 #endif
