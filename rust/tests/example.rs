@@ -47,3 +47,8 @@ fn a_refused_journal() {
     std::fs::write(file, b"QX\x05\0\0\0\0\0\0\0??").expect("a file that can be written");
     assert_message(&[file], &format!("fold: {file}: refusal 10 at byte 10: unknown mark\n"), 1);
 }
+
+#[test]
+fn an_endless_file() {
+    assert_message(&["/dev/zero"], "fold: /dev/zero: refusal 9 at byte 65536: journal over 65,536 bytes\n", 1);
+}
