@@ -4,19 +4,18 @@ use native.Mathlib.Numerals.{add-one}
 use native.Mathlib.Omega.{arith}
 use mathlib.Core.Path.{_≡_, refl, ap, sym, _∙_}
 use mathlib.Core.List.{List, [], _∷_, _++_, append-assoc}
-use lib.ListN.{length, take, drop, getD, drop-of-length-le}
-use lib.Seq.{paste, length-paste, take-append-le, take-take, take-at, drop-at, take-all, length-take-le, drop-cons}
+use lib.ListN.{length, take, drop, set, getD, drop-of-length-le}
+use lib.Seq.{paste, length-paste, take-append-le, take-take, take-at, drop-at, take-all, length-take-le, drop-cons, take-set-le, drop-set-add}
 use borrow.Author.Tests.{le-leb, lt-leb}
 use Rattle.lists.specs.Bytes.{Bytes}
 use Rattle.lists.proofs.Pasting.{grown}
 use Rattle.wire.specs.Numbers.{num, digits}
 use Rattle.wire.specs.HashText.{hexPair}
 use Rattle.wire.proofs.NumberLaws.{length-digits, num-digits}
-use Rattle.console.specs.Lines.{counted, placedLine, placedLines}
-use Rattle.console.specs.Waiting.{count, waits, behind, allBehind, pairs}
+use Rattle.console.specs.Waiting.{count, waits, behind, allBehind, counted, pairs}
 
 -- the count of a buffer whose last two bytes were written
-count-of : (p : Bytes) (n : ℕ) → length p ≡ 4098 → n ≤ 4096 → count (paste p 4096 (digits 2 n) 2) ≡ n
+count-of : (p : Bytes) (n : ℕ) → length p ≡ 4099 → n ≤ 4096 → count (paste p 4096 (digits 2 n) 2) ≡ n
 unfolding count
 count-of p n l h =
     let front : length (take 4096 p) ≡ 4096 = length-take-le 4096 p (omega arith) in
@@ -25,8 +24,8 @@ count-of p n l h =
     rw (append-assoc, drop-at (take 4096 p) _ 4096 front, take-all 2 (digits 2 n) (omega arith), take-at (digits 2 n) _ 2 ds) in
     ap (λ (b : Bytes). min (num b) 4096) part ∙ rw (num-digits 2 n (omega arith)) (omega arith)
 
-module _ (o t : Bytes) (at : ℕ) (fits : at + length t ≤ 4096) (l : length o ≡ 4098) where
-  pub long-put : length (paste o at t (length t)) ≡ 4098
+module _ (o t : Bytes) (at : ℕ) (fits : at + length t ≤ 4096) (l : length o ≡ 4099) where
+  pub long-put : length (paste o at t (length t)) ≡ 4099
   long-put = length-paste o at t (length t) (omega arith) (omega arith) ∙ l
 
   -- bytes at a place, and a count that ends behind them
@@ -39,6 +38,14 @@ module _ (o t : Bytes) (at : ℕ) (fits : at + length t ≤ 4096) (l : length o 
       rw (count-of p n long-put fits)
       (rw append-assoc
       (take-append-le n (take 4096 p) _ (omega arith) ∙ take-take n 4096 p fits ∙ grown o at t (take at o) (length t) (omega arith) refl refl))
+
+-- whether a write has failed does not change what waits
+pub kept-waits : (o : Bytes) (failed : ℕ) → waits (set o 4098 failed) ≡ waits o
+unfolding waits count
+kept-waits o failed =
+    let same : take 2 (drop 4096 (set o 4098 failed)) ≡ take 2 (drop 4096 o) =
+    ap (take 2) (drop-set-add 4096 o 2 failed) ∙ take-set-le 2 (drop 4096 o) 2 failed (omega arith) in
+    rw same (take-set-le (min (num (take 2 (drop 4096 o))) 4096) o 4098 failed (omega arith))
 
 -- a text that fits behind what waits
 pub fits-behind : (w t : Bytes) → length t ≤ 4096 - length w → w ++ t ≡ behind w t
@@ -55,7 +62,7 @@ pub fits-not : (w t : Bytes) → 4096 - length w < length t → 4096 < length t 
 unfolding behind
 fits-not w t h g = sym (rw (lt-leb _ _ h, lt-leb _ _ g))
 
-pub length-waits : (o : Bytes) → length o ≡ 4098 → length (waits o) ≡ count o
+pub length-waits : (o : Bytes) → length o ≡ 4099 → length (waits o) ≡ count o
 unfolding waits count
 length-waits o l = length-take-le (count o) o (omega arith)
 
@@ -68,16 +75,6 @@ hex-turn bs w next p i h e f = rw (drop-cons bs i 0 h, f, e, add-one i)
 pub hex-done : (bs w : Bytes) (i : ℕ) → length bs ≤ i → allBehind w (pairs (drop i bs)) ≡ w
 unfolding allBehind pairs
 hex-done bs w i h = rw (drop-of-length-le bs h)
-
--- a number's line is put, and those of the others are left
-pub line-turn : (ns : List ℕ) (w next : Bytes) (i : ℕ) → i < length ns → next ≡ allBehind w (placedLine i (getD ns i 0))
-    → allBehind next (placedLines (i + 1) (drop (i + 1) ns)) ≡ allBehind w (placedLines i (drop i ns))
-unfolding allBehind placedLine placedLines
-line-turn ns w next i h f = rw (drop-cons ns i 0 h, f, add-one i)
-
-pub line-done : (ns : List ℕ) (w : Bytes) (i : ℕ) → length ns ≤ i → allBehind w (placedLines i (drop i ns)) ≡ w
-unfolding allBehind placedLines
-line-done ns w i h = rw (drop-of-length-le ns h)
 
 -- texts, and then more texts
 pub and-then : (a b : List Bytes) (w mid last : Bytes) → mid ≡ allBehind w a → last ≡ allBehind mid b → last ≡ allBehind w (a ++ b)

@@ -1,5 +1,5 @@
--- A buffer: 4,096 bytes, and behind them, as u16, how many of them wait to be written. What is written is no part of the logic, and what
--- waits is: after texts were put, one by one, and where they are numbers and bytes as digits.
+-- A buffer: 4,096 bytes, after them, as u16, how many of them wait to be written, and a byte that says whether a write has failed. What is
+-- written is no part of the logic, and what waits is: after texts were put, one by one, and where they are numbers and bytes as digits.
 use Prim.Native.Nat.{ℕ, zero, suc, _-_, _/_, min}
 use mathlib.Core.Bool.{cond}
 use mathlib.Core.List.{List, [], _∷_, _++_}
@@ -40,3 +40,7 @@ decimal n = digits 10 (places 19 n) n
 unfoldable pub pairs : Bytes → List Bytes
 pairs [] = []
 pairs (b ∷ bs) = hexPair b ∷ pairs bs
+
+-- a word, a space and a number
+unfoldable pub counted : Bytes → ℕ → List Bytes
+counted word n = word ∷ (32 ∷ []) ∷ decimal n ∷ []

@@ -1,20 +1,28 @@
-// What the programs write: words, numbers, hex digits, the line of a fold, and the lines and totals of a trace are put into a buffer,
-// which goes to standard output when it is full and at the end. What is written is no part of the logic, so the contracts say what waits in the buffer.
+// What the programs read and write. Standard input is read to a slice. Words, numbers and hex digits are put into a buffer, which goes to
+// standard output when it is full and at the end. What is written is no part of the logic, so the contracts say what waits in the buffer.
 ghost use mathlib.Core.Path.{_≡_};
 ghost use mathlib.Core.List.{[], _∷_, _++_};
 ghost use Prim.Native.Nat.{_+_, _≤_};
 ghost use lib.Dec.{ltb};
 ghost use lib.ListN.{length, take};
-ghost use Rattle.console.specs.Lines.{counted, refusalLine, totalsLine, foldLine, placedLine, placedLines, traceTotalsLine};
-ghost use Rattle.console.specs.Waiting.{count, waits, behind, allBehind, decimal, pairs};
+ghost use Rattle.console.specs.Waiting.{count, waits, behind, allBehind, decimal, counted, pairs};
 use libc::STDERR_FILENO;
 use libc::STDOUT_FILENO;
+
+mod reading; // reading.rt: standard input
+
+pub use reading::Input;
+pub use reading::read_input;
 
 // How many bytes wait at most.
 const ROOM: usize = 4096;
 
-// The bytes that wait to be written, and behind them, as u16, how many they are. A buffer of zeros is empty.
-pub const SIZE: usize = ROOM + 2;
+// Where a buffer says whether a write has failed: not 0 if one has.
+const FAILED: usize = ROOM + 2;
+
+// The bytes that wait to be written, after them, as u16, how many they are, and last whether a write has failed. A buffer of zeros is
+// empty, and no write has failed.
+pub const SIZE: usize = FAILED + 1;
 
 pub type Output = [u8; SIZE];
 
@@ -38,13 +46,27 @@ fn put(out: &mut Output, at: usize, t: &[u8])
     wire::put_number(out, ROOM, 2, (at + t.len()) as u64);
 }
 
+// Writes bytes to standard output, unless a write has failed before, and returns whether one has failed by now: 0 if none has. The
+// first that fails is a line on standard error, with its reason.
+fn write(failed: u8, bytes: &[u8]) -> u8 {
+    if failed != 0 {
+        return failed;
+    }
+    if io::write_all(STDOUT_FILENO, bytes) {
+        return 0;
+    }
+    os::fail(b"standard output");
+    1
+}
+
 // Writes what waits.
 pub fn flush(out: &mut Output)
     ensures { λ _. ⌜ waits (now (out .exit)) ≡ [] ⌝ }
 {
     let n = waiting(out);
     let all = &out[..];
-    io::write_all(STDOUT_FILENO, &all[0..n]);
+    let failed = write(all[FAILED], &all[0..n]);
+    out[FAILED] = failed;
     put(out, 0, b"");
 }
 
@@ -62,7 +84,8 @@ pub fn text(out: &mut Output, t: &[u8])
         put(out, 0, t);
         return;
     }
-    io::write_all(STDOUT_FILENO, t);
+    let failed = write(out[FAILED], t);
+    out[FAILED] = failed;
 }
 
 // Puts a number's decimal digits.
@@ -101,77 +124,6 @@ pub fn count(out: &mut Output, word: &[u8], n: u64)
 {
     text(out, word);
     next(out, n);
-}
-
-// The line of a refusal: its number, and the offset at which the journal is refused.
-fn refusal_line(out: &mut Output, code: u64)
-    ensures { λ _. ⌜ waits (now (out .exit)) ≡ allBehind (waits (now (out .entry))) (refusalLine code) ⌝ }
-{
-    count(out, b"refused", code % 256);
-    count(out, b" at", code / 256);
-    text(out, b"\n");
-}
-
-// The line of a fold that answered 0, with its five totals.
-fn totals_line(out: &mut Output, totals: &[u8; 40])
-    ensures { λ _. ⌜ waits (now (out .exit)) ≡ allBehind (waits (now (out .entry))) (totalsLine (now (totals .entry))) ⌝ }
-{
-    count(out, b"pending", wire::number(totals, 0, 8));
-    count(out, b" skipped", wire::number(totals, 8, 8));
-    count(out, b" migrated", wire::number(totals, 16, 8));
-    count(out, b" degraded", wire::number(totals, 24, 8));
-    count(out, b" end", wire::number(totals, 32, 8));
-    text(out, b"\n");
-}
-
-// Document 01's line of a fold, from what the exported function returned and wrote.
-pub fn fold_line(out: &mut Output, code: u64, totals: &[u8; 40])
-    ensures { λ _. ⌜ waits (now (out .exit)) ≡ allBehind (waits (now (out .entry))) (foldLine code (now (totals .entry))) ⌝ }
-{
-    if code == 0 {
-        totals_line(out, totals);
-    } else {
-        refusal_line(out, code);
-    }
-}
-
-// A line of a trace: a place, a space and a number.
-fn placed_line(out: &mut Output, place: usize, n: u64)
-    ensures { λ _. ⌜ waits (now (out .exit)) ≡ allBehind (waits (now (out .entry))) (placedLine place n) ⌝ }
-{
-    number(out, place as u64);
-    next(out, n);
-    text(out, b"\n");
-}
-
-// A line for each number, from place 0 on.
-pub fn trace_lines(out: &mut Output, lines: &[u64])
-    ensures { λ _. ⌜ waits (now (out .exit)) ≡ allBehind (waits (now (out .entry))) (placedLines 0 (now (lines .entry))) ⌝ }
-{
-    let mut i = 0;
-    while i < lines.len() {
-        placed_line(out, i, lines[i]);
-        i += 1;
-    }
-}
-
-// The last line of a trace: its totals.
-pub fn trace_totals_line(
-    out: &mut Output,
-    accepted: usize,
-    held: usize,
-    rescued: usize,
-    dead: usize,
-    evicted: usize,
-)
-    ensures { λ _. ⌜ waits (now (out .exit)) ≡ allBehind (waits (now (out .entry))) (traceTotalsLine accepted held rescued dead evicted) ⌝ }
-{
-    count(out, b"accepted", accepted as u64);
-    count(out, b" held", held as u64);
-    count(out, b" rescued", rescued as u64);
-    count(out, b" dead", dead as u64);
-    count(out, b" evicted", evicted as u64);
-    text(out, b"\n");
 }
 
 // Whether a program that takes no argument was given one: its own name counts among them. If so, its usage goes to standard

@@ -1,5 +1,6 @@
-// The head of an item of standard input: its kind, the number of its bytes, and the length of the output that is lent.
-use libc::STDIN_FILENO;
+// An item of standard input: its head, which has its kind, the number of its bytes and the length of the output that is lent, and its
+// bytes.
+use console::Input;
 
 // One byte more than a journal may have, so that a longer one is refused.
 pub(crate) const LONGEST: usize = 65537;
@@ -19,17 +20,21 @@ pub(crate) struct Head {
     pub(crate) size: usize,
 }
 
-// What comes next: an item, the end, or a head that breaks off or is over a limit.
+// What comes next: an item, the end, an item that breaks off or is over a limit, or input that cannot be read.
 pub(crate) enum Next {
     Item(Head),
     End,
     Bad,
+    Failed,
 }
 
 // The rest of a head that says how long the output is.
 fn lent_head(kind: Kind, len: usize) -> Next {
     let mut bytes = [0u8; 2];
-    if io::read_full(STDIN_FILENO, &mut bytes) < 2 {
+    let Input::Read(got) = console::read_input(&mut bytes) else {
+        return Next::Failed;
+    };
+    if got < 2 {
         return Next::Bad;
     }
     let room = wire::number(&bytes, 0, 2) as usize;
@@ -59,10 +64,12 @@ fn park_head(len: usize) -> Next {
     Next::Item(head)
 }
 
-// The head of the next item of standard input.
-pub(crate) fn next_head() -> Next {
+// The head of the next item.
+fn next_head() -> Next {
     let mut bytes = [0u8; 5];
-    let got = io::read_full(STDIN_FILENO, &mut bytes);
+    let Input::Read(got) = console::read_input(&mut bytes) else {
+        return Next::Failed;
+    };
     if got == 0 {
         return Next::End;
     }
@@ -76,4 +83,23 @@ pub(crate) fn next_head() -> Next {
         2 => lent_head(Kind::Rewrite, len),
         _ => Next::Bad,
     }
+}
+
+// The next item, its bytes at the front of a slice, where `left` bytes of input may still come.
+pub(crate) fn next_item(left: usize, bytes: &mut [u8]) -> Next {
+    let next = next_head();
+    let Next::Item(head) = next else {
+        return next;
+    };
+    let len = head.len;
+    if left < head.size || bytes.len() < len {
+        return Next::Bad;
+    }
+    let Input::Read(got) = console::read_input(&mut bytes[0..len]) else {
+        return Next::Failed;
+    };
+    if got < len {
+        return Next::Bad;
+    }
+    next
 }

@@ -4,10 +4,9 @@ use item::Head;
 use item::Kind;
 use item::Next;
 use journal_writer::WriteAnswer;
-use libc::STDIN_FILENO;
 use rewrite::Rewritten;
 
-mod item; // item.rt: the head of an item of standard input
+mod item; // item.rt: an item of standard input
 mod rewrite; // rewrite.rt: one record, read and written again
 
 // How long standard input may be.
@@ -62,7 +61,7 @@ fn print_pending(out: &mut Output, records: &[u8], count: u64) {
 fn run_journal(out: &mut Output, journal: &[u8], records: &mut [u8]) {
     let mut totals = [0u8; 40];
     let code = journal_exports::gap_quarantine_fold(journal, records, &mut totals);
-    console::fold_line(out, code, &totals);
+    fold_output::fold_line(out, code, &totals);
     if code == 0 {
         print_pending(out, records, wire::number(&totals, 0, 8));
     }
@@ -108,21 +107,6 @@ fn run(out: &mut Output, head: Head, bytes: &[u8]) {
     }
 }
 
-// Reads the bytes of an item and runs it, behind a line with its place. Says whether all of them came.
-fn run_item(out: &mut Output, head: Head, place: usize, bytes: &mut [u8]) -> bool {
-    let len = head.len;
-    if bytes.len() < len {
-        return false;
-    }
-    if io::read_full(STDIN_FILENO, &mut bytes[0..len]) < len {
-        return false;
-    }
-    console::count(out, b"==", place as u64);
-    console::text(out, b"\n");
-    run(out, head, &bytes[0..len]);
-    true
-}
-
 // What is printed where no item follows.
 fn end(out: &mut Output, next: Next) {
     if let Next::Bad = next {
@@ -130,22 +114,26 @@ fn end(out: &mut Output, next: Next) {
     }
 }
 
-// The items of standard input, one after another.
+// The items of standard input, one after another, each after a line with its place.
 fn run_items(out: &mut Output) {
     let mut bytes = [0u8; item::LONGEST];
     let mut left = INPUT;
     let mut place: usize = 0;
     while place <= INPUT {
-        let next = item::next_head();
+        let next = item::next_item(left, &mut bytes);
         let Next::Item(head) = next else {
             end(out, next);
             return;
         };
+        let len = head.len;
         let size = head.size;
-        if left < size || !run_item(out, head, place, &mut bytes) {
-            end(out, Next::Bad);
+        // No item that was read is larger.
+        if item::LONGEST < len || left < size {
             return;
         }
+        console::count(out, b"==", place as u64);
+        console::text(out, b"\n");
+        run(out, head, &bytes[0..len]);
         left -= size;
         place += 1;
     }

@@ -2,9 +2,9 @@
 ghost use mathlib.Core.Path.{_≡_};
 ghost use Prim.Native.Nat.{_≤_};
 ghost use lib.ListN.{length};
+use console::Input;
 use console::Output;
 use gap_quarantine::Quarantine;
-use libc::STDIN_FILENO;
 
 mod calls; // calls.rt: the calls that may change the store
 mod dump; // dump.rt: the whole store as text
@@ -70,17 +70,20 @@ fn run_script(out: &mut Output, s: &[u8]) {
     }
 }
 
-// The next script of standard input: its length; or the end; or input that breaks off or is over a limit.
+// The next script of standard input: its length; or the end; or input that breaks off or is over a limit; or input that cannot be read.
 enum Next {
     Script(usize),
     End,
     Bad,
+    Failed,
 }
 
 // Reads a script, where so many bytes of input may still come.
 fn next_script(left: usize, script: &mut [u8]) -> Next {
     let mut head = [0u8; 4];
-    let got = io::read_full(STDIN_FILENO, &mut head);
+    let Input::Read(got) = console::read_input(&mut head) else {
+        return Next::Failed;
+    };
     if got == 0 {
         return Next::End;
     }
@@ -91,7 +94,10 @@ fn next_script(left: usize, script: &mut [u8]) -> Next {
     if script.len() < len || left - 4 < len {
         return Next::Bad;
     }
-    if io::read_full(STDIN_FILENO, &mut script[0..len]) < len {
+    let Input::Read(got) = console::read_input(&mut script[0..len]) else {
+        return Next::Failed;
+    };
+    if got < len {
         return Next::Bad;
     }
     Next::Script(len)

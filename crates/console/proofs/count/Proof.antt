@@ -1,8 +1,7 @@
 use mathlib.Core.Path.{ap, _∙_}
 use mathlib.Core.List.{[], _∷_}
 use Rattle.lists.specs.Bytes.{Bytes}
-use Rattle.console.specs.Waiting.{behind, allBehind, decimal}
-use Rattle.console.specs.Lines.{counted}
+use Rattle.console.specs.Waiting.{behind, allBehind, decimal, counted}
 use borrow.Author.Needs.{needs}
 use Rattle.console.proofs.count.Statement.{statement}
 use Rattle.console.proofs.count.Tie as tie

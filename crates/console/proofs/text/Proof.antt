@@ -4,7 +4,7 @@ use mathlib.Core.Path.{ap, _∙_}
 use lib.ListN.{take}
 use mathlib.Core.List.{_++_}
 use Rattle.console.specs.Waiting.{waits}
-use Rattle.console.proofs.Putting.{fits-behind, fits-alone, fits-not}
+use Rattle.console.proofs.Putting.{kept-waits, fits-behind, fits-alone, fits-not}
 use borrow.Author.Needs.{needs}
 use Rattle.console.proofs.text.Statement.{statement}
 use Rattle.console.proofs.text.Tie as tie
@@ -39,15 +39,21 @@ returns-2 c =
     let at = (c .before .before .before .before .before .before) .waiting in
     c .put2 .ensures ∙ fits-alone (waits o) t (omega (arith, at .ensures .1)) (omega arith)
 
-write-all-requires : tie.Need-write-all-requires
-write-all-requires c κs = search needs
+element-copy-out-write : tie.Need-element-copy-out-write
+element-copy-out-write c = search needs
+
+write-requires : tie.Need-write-requires
+write-requires c κs = search needs
+
+element-write-out : tie.Need-element-write-out
+element-write-out c = search needs
 
 returns-3 : tie.Need-returns-3
 returns-3 c =
-    let o = (c .before .before .before .before .before .before .before .before) .args .out .now in
-    let t = (c .before .before .before .before .before .before .before .before) .args .t .now in
-    let at = (c .before .before .before .before .before) .waiting in
-    (c .before .before) .flush .ensures ∙ fits-not (waits o) t (omega (arith, at .ensures .1)) (omega arith)
+    let o = (c .before .before .before .before .before .before .before .before .before) .args .out .now in
+    let t = (c .before .before .before .before .before .before .before .before .before) .args .t .now in
+    let at = (c .before .before .before .before .before .before) .waiting in
+    kept-waits _ _ ∙ (c .before .before .before) .flush .ensures ∙ fits-not (waits o) t (omega (arith, at .ensures .1)) (omega arith)
 
 pub text-spec : {M : Type 1} → statement M
 text-spec =
@@ -60,5 +66,7 @@ text-spec =
     flush-requires
     put-requires-2
     returns-2
-    write-all-requires
+    element-copy-out-write
+    write-requires
+    element-write-out
     returns-3)

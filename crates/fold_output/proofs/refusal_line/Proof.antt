@@ -1,8 +1,8 @@
-use Rattle.console.specs.Lines.{refusalLine}
+use Rattle.fold_output.specs.Lines.{refusalLine}
 use Rattle.console.proofs.Putting.{and-then, and-text}
 use borrow.Author.Needs.{needs}
-use Rattle.console.proofs.refusal_line.Statement.{statement}
-use Rattle.console.proofs.refusal_line.Tie as tie
+use Rattle.fold_output.proofs.refusal_line.Statement.{statement}
+use Rattle.fold_output.proofs.refusal_line.Tie as tie
 
 slice-aggregate-count : tie.Need-slice-aggregate-count
 slice-aggregate-count c = search needs

@@ -1,9 +1,9 @@
 use mathlib.Core.Path.{_∙_}
 use borrow.Author.Tests.{eq-eqb, ne-eqb}
-use Rattle.console.specs.Lines.{foldLine}
+use Rattle.fold_output.specs.Lines.{foldLine}
 use borrow.Author.Needs.{needs}
-use Rattle.console.proofs.fold_line.Statement.{statement}
-use Rattle.console.proofs.fold_line.Tie as tie
+use Rattle.fold_output.proofs.fold_line.Statement.{statement}
+use Rattle.fold_output.proofs.fold_line.Tie as tie
 
 totals-line-requires : tie.Need-totals-line-requires
 totals-line-requires c κs = search needs

@@ -2,10 +2,10 @@ use mathlib.Core.Path.{ap, _∙_}
 use mathlib.Core.List.{[], _∷_}
 use borrow.Author.Needs.{needs}
 use Rattle.lists.specs.Bytes.{Bytes}
-use Rattle.console.specs.Lines.{placedLine}
+use Rattle.trace_output.specs.Lines.{placedLine}
 use Rattle.console.specs.Waiting.{behind, allBehind, decimal}
-use Rattle.console.proofs.placed_line.Statement.{statement}
-use Rattle.console.proofs.placed_line.Tie as tie
+use Rattle.trace_output.proofs.placed_line.Statement.{statement}
+use Rattle.trace_output.proofs.placed_line.Tie as tie
 
 number-requires : tie.Need-number-requires
 number-requires c κs = search needs

@@ -1,8 +1,8 @@
-use Rattle.console.specs.Lines.{total, totalsLine}
+use Rattle.fold_output.specs.Lines.{total, totalsLine}
 use Rattle.console.proofs.Putting.{a-count, and-count, and-text}
 use borrow.Author.Needs.{needs}
-use Rattle.console.proofs.totals_line.Statement.{statement}
-use Rattle.console.proofs.totals_line.Tie as tie
+use Rattle.fold_output.proofs.totals_line.Statement.{statement}
+use Rattle.fold_output.proofs.totals_line.Tie as tie
 
 slice-aggregate-count : tie.Need-slice-aggregate-count
 slice-aggregate-count c = search needs

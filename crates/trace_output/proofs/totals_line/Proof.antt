@@ -1,9 +1,9 @@
 use mathlib.Core.Path.{refl}
-use Rattle.console.specs.Lines.{traceTotalsLine}
+use Rattle.trace_output.specs.Lines.{totalsLine}
 use Rattle.console.proofs.Putting.{a-count, and-count, and-text}
 use borrow.Author.Needs.{needs}
-use Rattle.console.proofs.trace_totals_line.Statement.{statement}
-use Rattle.console.proofs.trace_totals_line.Tie as tie
+use Rattle.trace_output.proofs.totals_line.Statement.{statement}
+use Rattle.trace_output.proofs.totals_line.Tie as tie
 
 slice-aggregate-count : tie.Need-slice-aggregate-count
 slice-aggregate-count c = search needs
@@ -42,8 +42,8 @@ text-requires : tie.Need-text-requires
 text-requires c κs = search needs
 
 returns : tie.Need-returns
-unfolding traceTotalsLine
-returns c = let a = (c .before .before .before .before .before .before .before .before .before .before .before .before .before .before .before .before .before .before) .args in
+unfolding totalsLine
+returns c = let a = (c .before .before .before .before .before .before .before .before .before .before .before .before .before .before .before .before .before .before) .args .totals in
     let first = a-count _ _ (a .accepted) _ _ refl ((c .before .before .before .before .before .before .before .before .before .before .before .before .before .before .before) .count .ensures) in
     let second = and-count _ _ _ (a .held) _ _ _ first refl ((c .before .before .before .before .before .before .before .before .before .before .before .before) .count2 .ensures) in
     let third = and-count _ _ _ (a .rescued) _ _ _ second refl ((c .before .before .before .before .before .before .before .before .before) .count3 .ensures) in
@@ -51,8 +51,8 @@ returns c = let a = (c .before .before .before .before .before .before .before .
     let fifth = and-count _ _ _ (a .evicted) _ _ _ fourth refl ((c .before .before .before) .count5 .ensures) in
     and-text _ _ _ _ _ fifth (c .text .ensures)
 
-pub trace-totals-line-spec : {M : Type 1} → statement M
-trace-totals-line-spec =
+pub totals-line-spec : {M : Type 1} → statement M
+totals-line-spec =
     tie.close
     (tie.spec
     slice-aggregate-count

@@ -3,11 +3,11 @@ use native.Mathlib.Omega.{arith}
 use mathlib.Core.Path.{_≡_, refl, sym, _∙_}
 use lib.ListN.{length, drop}
 use borrow.Author.Needs.{needs}
-use Rattle.console.specs.Lines.{placedLines}
+use Rattle.trace_output.specs.Lines.{placedLines}
 use Rattle.console.specs.Waiting.{waits, allBehind}
-use Rattle.console.proofs.Putting.{line-turn, line-done}
-use Rattle.console.proofs.trace_lines.Statement.{statement}
-use Rattle.console.proofs.trace_lines.Tie as tie
+use Rattle.trace_output.proofs.Printing.{line-turn, line-done}
+use Rattle.trace_output.proofs.placed_lines.Statement.{statement}
+use Rattle.trace_output.proofs.placed_lines.Tie as tie
 
 abbrev Inv-loop : tie.InvT-loop
 Inv-loop out₀ lines i₀ out i = (i ≤ length lines) × (allBehind (waits out) (placedLines i (drop i lines)) ≡ allBehind (waits out₀) (placedLines 0 lines))
@@ -39,8 +39,8 @@ loop-again c = (omega arith, line-turn ((c .before .before .before .before .befo
 returns : tie.Need-returns Inv-loop μ-loop
 returns c = sym (line-done ((c .before .before .before) .args .lines .now) (waits ((c .before) .loop .out)) ((c .before) .loop .i) (omega arith)) ∙ (c .before) .loop .inv .1
 
-pub trace-lines-spec : {M : Type 1} → statement M
-trace-lines-spec =
+pub placed-lines-spec : {M : Type 1} → statement M
+placed-lines-spec =
     tie.close
     (tie.spec
     Inv-loop
