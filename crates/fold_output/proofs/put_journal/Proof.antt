@@ -18,7 +18,7 @@ fold-line-requires : tie.Need-fold-line-requires
 fold-line-requires c κs = search needs
 
 returns : tie.Need-returns
-returns c = c .fold-line .ensures ∙ ap (allBehind (waits ((c .before .before .before .before .before .before .before .before .before) .args .out .now))) (line-of ((c .before .before .before .before .before .before .before .before .before) .args .journal .now) _ ((c .before .before .before .before .before) .gap-quarantine-fold .ensures))
+returns c = c .fold-line .ensures ∙ ap (allBehind (waits ((c .before .before .before .before .before .before .before .before .before) .args .out .now))) (line-of ((c .before .before .before .before .before .before .before .before .before) .args .journal .now) _ _ (search needs) ((c .before .before .before .before .before) .gap-quarantine-fold .ensures))
 
 pub put-journal-spec : {M : Type 1} → statement M
 put-journal-spec =
