@@ -56,8 +56,9 @@ const POLL_REFUSALS: [u8; 2] = [3, 4];
 /// The refusals that a sweep can meet in a script.
 const SWEEP_REFUSALS: [u8; 3] = [17, 18, 3];
 
-/// The wrong rules for traces that are not told by one trace that is whole and below the limit.
-const NOT_BY_ONE: [Misread; 26] = [
+/// The wrong rules for traces that are not told by one trace, below the limit and whole up to a last call that is cut short, so that it
+/// has no totals.
+const NOT_BY_ONE: [Misread; 38] = [
     Misread::MarksOfScripts,
     Misread::MarkBySecond,
     Misread::OptionalTwo,
@@ -67,8 +68,6 @@ const NOT_BY_ONE: [Misread; 26] = [
     Misread::GuardKindThree,
     Misread::EnterKindZero,
     Misread::EnterKindFour,
-    Misread::CutRuns,
-    Misread::CutPassedOver,
     Misread::ByteLeft,
     Misread::LimitOneMore,
     Misread::LimitOneLess,
@@ -76,13 +75,27 @@ const NOT_BY_ONE: [Misread; 26] = [
     Misread::LimitRunsUp,
     Misread::LimitBehind,
     Misread::RunsOn,
-    Misread::NineteenSilent,
-    Misread::NineteenAlone,
-    Misread::NineteenFirst,
-    Misread::NineteenOfLast,
     Misread::EmptyRefused,
-    Misread::TotalsOfNineteen,
+    Misread::AcceptedRefused,
+    Misread::AcceptedCalls,
+    Misread::AcceptedOnce,
+    Misread::AcceptedTotal,
+    Misread::HeldTracked,
+    Misread::HeldLessRescued,
+    Misread::RescuedRows,
+    Misread::RescuedConsumed,
+    Misread::RescuedPolls,
+    Misread::DeadConsumed,
+    Misread::DeadEntered,
+    Misread::DeadEvicted,
+    Misread::EvictedDead,
+    Misread::EvictedRevived,
+    Misread::EvictedCalls,
+    Misread::TotalsNever,
+    Misread::TotalsFirst,
     Misread::TotalsNotOfEmpty,
+    Misread::TotalsNotOfRefused,
+    Misread::TotalsHeldLast,
     Misread::TotalsInAByte,
 ];
 
@@ -185,7 +198,9 @@ fn form(call: &Call) -> u8 {
 }
 
 fn freeze_trace(folder: &Path) {
-    let input = bytes_of(&store::manual::traced());
+    let mut input = bytes_of(&store::manual::traced());
+    // the last call is cut short
+    input.pop();
     let read = places(&input, None);
     let ran = run(&read, &mut Store::default(), None);
     let output = text(&ran, None);
@@ -194,15 +209,12 @@ fn freeze_trace(folder: &Path) {
     for number in STORE_REFUSALS {
         assert!(ran.numbers.contains(&number), "refusal {number} stands in the trace");
     }
-    for (word, number) in ran.totals.words() {
-        assert!(number > 0, "{word} is above 0 in the trace");
-    }
-    assert!(output.ends_with(&format!("\n{}\n", ran.totals.line(None))), "the trace ends so");
+    assert!(output.ends_with(" 19\n"), "the trace ends so");
     let tells = |wrong: Misread| lines(&input, Some(wrong)) != output;
     let untold: Vec<Misread> = MISREAD.iter().map(|(wrong, _)| *wrong).filter(|wrong| !tells(*wrong)).collect();
     assert_eq!(untold, NOT_BY_ONE, "what the trace does not tell");
     write(folder, &input, &output);
-    println!("trace: {} calls, standard input {} bytes, output {} bytes", read.len(), input.len(), output.len());
+    println!("trace: {} lines, standard input {} bytes, output {} bytes", read.len(), input.len(), output.len());
 }
 
 // ---- journals
