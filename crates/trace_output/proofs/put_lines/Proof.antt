@@ -28,8 +28,8 @@ returns : tie.Need-returns
 returns c =
     let t = readTrace ((c .before .before .before .before .before .before .before) .args .trace .now) in
     let w = waits ((c .before .before .before .before .before .before .before) .args .out .now) in
-    let ran = (c .before .before .before .before) .run-trace .ensures in
-    without-totals t w _ ((c .before) .placed-lines .ensures ∙ ap (λ ns. allBehind w (placedLines 0 ns)) (ran-lines t _ _ _ ran)) (sym (ran .whole) ∙ not-true _ (c .if1 .taken))
+    let ran = (c .before .before .before .before) .run-trace in
+    without-totals t w _ ((c .before) .placed-lines .ensures ∙ ap (λ ns. allBehind w (placedLines 0 ns)) (ran-lines t _ _ _ (ran .ensures))) (sym (ran .ensures .whole) ∙ not-true (ran .result .whole) (c .if1 .taken))
 
 totals-line-requires : tie.Need-totals-line-requires
 totals-line-requires c κs = search needs
@@ -38,8 +38,8 @@ returns-2 : tie.Need-returns-2
 returns-2 c =
     let t = readTrace ((c .before .before .before .before .before .before .before .before .before .before) .args .trace .now) in
     let w = waits ((c .before .before .before .before .before .before .before .before .before .before) .args .out .now) in
-    let ran = (c .before .before .before .before .before .before .before) .run-trace .ensures in
-    with-totals t w _ ((c .before .before .before .before) .placed-lines .ensures ∙ ap (λ ns. allBehind w (placedLines 0 ns)) (ran-lines t _ _ _ ran)) _ _ (sym (ran .whole) ∙ not-false _ ((c .before .before .before) .if1 .left)) (ran .totals) (c .totals-line .ensures)
+    let ran = (c .before .before .before .before .before .before .before) .run-trace in
+    with-totals t w _ ((c .before .before .before .before) .placed-lines .ensures ∙ ap (λ ns. allBehind w (placedLines 0 ns)) (ran-lines t _ _ _ (ran .ensures))) _ _ (sym (ran .ensures .whole) ∙ not-false (ran .result .whole) ((c .before .before .before) .if1 .left)) (ran .ensures .totals) (c .totals-line .ensures)
 
 pub put-lines-spec : {M : Type 1} → statement M
 put-lines-spec =
