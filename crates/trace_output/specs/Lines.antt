@@ -28,10 +28,10 @@ totalsLine totals =
     ++ counted (32 ∷ 101 ∷ 118 ∷ 105 ∷ 99 ∷ 116 ∷ 101 ∷ 100 ∷ []) (totals .evicted)
     ++ ((10 ∷ []) ∷ [])
 
--- a line for each call, and a 19 or the totals after them
+-- a line for each call and for a 19, and the totals of a whole trace
 unfoldable pub traceLines : Trace → List Bytes
 traceLines t = placedLines 0 (lines t) ++ cond (t .whole) (totalsLine (traceTotals t)) []
 
--- what is printed of n bytes that were read, of which the first stand here: over 65,536 are no trace, whatever they are
+-- what is printed where n bytes were read, and these are the first of them: more than 65,536 are no trace, whatever they are
 unfoldable pub traceOutput : ℕ → Bytes → List Bytes
 traceOutput n first = cond (ltb 65536 n) (placedLine 0 19) (traceLines (readTrace (take n first)))

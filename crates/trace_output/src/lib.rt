@@ -61,7 +61,7 @@ fn put_lines(out: &mut Output, trace: &[u8])
     totals_line(out, totals);
 }
 
-// Puts what is printed of n bytes that were read to the front of the buffer.
+// Puts what is printed where n bytes of a file were read to the front of `read`.
 pub fn put_trace(out: &mut Output, read: &[u8; READ], n: usize)
     ensures { λ _. ⌜ waits (now (out .exit)) ≡ allBehind (waits (now (out .entry))) (traceOutput n (now (read .entry))) ⌝ }
 {
