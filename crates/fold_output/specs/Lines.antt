@@ -41,6 +41,6 @@ foldOf journal = exported journal (replicate 15360 0) (replicate 40 0)
 unfoldable pub journalLine : Bytes → List Bytes
 journalLine journal = foldLine (foldOf journal .code) (foldOf journal .totals)
 
--- what is printed of n bytes that were read, of which the first stand here: over 65,536 are refused, whatever they are
+-- what is printed where n bytes were read, and these are the first of them: more than 65,536 are refused, whatever they are
 unfoldable pub foldOutput : ℕ → Bytes → List Bytes
 foldOutput n first = cond (ltb 65536 n) (refusalLine 9 65536) (journalLine (take n first))

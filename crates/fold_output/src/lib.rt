@@ -52,7 +52,7 @@ fn put_journal(out: &mut Output, journal: &[u8])
     fold_line(out, code, &totals);
 }
 
-// Puts what is printed of n bytes that were read to the front of the buffer.
+// Puts what is printed where n bytes of a file were read to the front of `read`.
 pub fn put_fold(out: &mut Output, read: &[u8; READ], n: usize)
     ensures { λ _. ⌜ waits (now (out .exit)) ≡ allBehind (waits (now (out .entry))) (foldOutput n (now (read .entry))) ⌝ }
 {
