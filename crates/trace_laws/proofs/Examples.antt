@@ -17,7 +17,7 @@ use Rattle.trace_format.specs.Traces as traces
 use Rattle.trace_laws.specs.Examples.{eight, frameF, pushClaiming, pollF, enterF, guardF, reorgF, finalF, evictF, Examples}
 
 -- the definitions that the examples compute with
-computing : Unit {0}
+unfoldable pub computing : Unit {0}
 unfolding bytes.eqBytes bytes.leBytes lists.keep lists.isEmpty lists.chunks lists.numbersFrom lists.sum search.firstAt numbers.num frames.isTracked frames.degraded polls.gap polls.predecessors polls.unknown polls.guardMatches polls.leave polls.row polls.pollFull polls.pollIn polls.pollGiven polls.pollRule rules.onlyOf rules.evictRule rules.differs rules.reorgIn rules.reorgRule rules.finalIn rules.finalRule lookup.entriesOf lookup.enters lookup.enterWith lookup.enterHead lookup.enterFirst store.empty store.guardOf store.dropGuard store.rowWidth store.after store.walk store.walked store.fresh store.insert store.effect store.when store.wideGap store.badContent store.inputRefusal store.listed store.rowsOf store.roomRefusal store.refusal store.unless store.step store.run sweeps.stepItem sweeps.runItems totals.acceptedIn totals.isRescue totals.rescuedIn totals.deadIn totals.evictedIn totals.answers totals.totals reading.part reading.byte reading.number reading.list reading.numbers reading.hashes reading.byFlag reading.optional reading.readPush reading.readPoll reading.guardInputs reading.guardBy reading.readGuard reading.blockInputs reading.enterBy reading.readEnter reading.readReorg reading.readFinal reading.readEvict reading.byMark reading.readCall traces.startingWith traces.readCalls traces.readTrace traces.lent traces.endStore traces.refusalIn traces.refusals traces.linesFrom traces.lines traces.traceTotals orElse eight frameF pushClaiming pollF enterF guardF reorgF finalF evictF
 computing = tt
 

@@ -1,29 +1,11 @@
 -- The examples are computed.
 use mathlib.Core.Path.{refl}
-use mathlib.Core.Option.{orElse}
-use Rattle.lists.specs.Bytes as bytes
-use Rattle.lists.specs.Lists as lists
-use Rattle.lists.specs.Search as search
-use Rattle.wire.specs.Numbers as numbers
-use Rattle.store_rules.specs.Frames as frames
-use Rattle.store_rules.specs.Poll as polls
-use Rattle.store_rules.specs.Rules as rules
-use Rattle.store_rules.specs.Lookup as lookup
-use Rattle.store_rules.specs.Store as store
-use Rattle.store_rules.specs.Sweeps as sweeps
-use Rattle.store_rules.specs.Totals as totals
-use Rattle.trace_format.specs.Reading as reading
-use Rattle.trace_format.specs.Traces as traces
-use Rattle.trace_laws.specs.Examples.{eight, frameF, pushClaiming, pollF}
-use Rattle.console.specs.Waiting as waiting
-use Rattle.trace_output.specs.Lines as written
+use Rattle.lists.specs.Lists.{collect}
+use Rattle.console.specs.Waiting.{places, decimal, counted}
+use Rattle.trace_laws.proofs.Examples.{computing}
+use Rattle.trace_output.specs.Lines.{placedLine, placedLines, totalsLine, traceLines, traceOutput}
 use Rattle.trace_output.specs.Examples.{printed, Examples}
 
--- the definitions that the examples compute with
-computing : Unit {0}
-unfolding bytes.eqBytes bytes.leBytes lists.keep lists.isEmpty lists.chunks lists.numbersFrom lists.sum search.firstAt numbers.num frames.isTracked frames.degraded polls.gap polls.predecessors polls.unknown polls.guardMatches polls.leave polls.row polls.pollFull polls.pollIn polls.pollGiven polls.pollRule rules.onlyOf rules.evictRule rules.differs rules.reorgIn rules.reorgRule rules.finalIn rules.finalRule lookup.entriesOf lookup.enters lookup.enterWith lookup.enterHead lookup.enterFirst store.empty store.guardOf store.dropGuard store.rowWidth store.after store.walk store.walked store.fresh store.insert store.effect store.when store.wideGap store.badContent store.inputRefusal store.listed store.rowsOf store.roomRefusal store.refusal store.unless store.step store.run sweeps.stepItem sweeps.runItems totals.acceptedIn totals.isRescue totals.rescuedIn totals.deadIn totals.evictedIn totals.answers totals.totals reading.part reading.byte reading.number reading.list reading.numbers reading.hashes reading.byFlag reading.optional reading.readPush reading.readPoll reading.guardInputs reading.guardBy reading.readGuard reading.blockInputs reading.enterBy reading.readEnter reading.readReorg reading.readFinal reading.readEvict reading.byMark reading.readCall traces.startingWith traces.readCalls traces.readTrace traces.lent traces.endStore traces.refusalIn traces.refusals traces.linesFrom traces.lines traces.traceTotals orElse eight frameF pushClaiming pollF lists.collect waiting.places waiting.decimal waiting.counted written.placedLine written.placedLines written.totalsLine written.traceLines written.traceOutput printed
-computing = tt
-
 pub examples : Examples
-unfolding computing
+unfolding computing collect places decimal counted placedLine placedLines totalsLine traceLines traceOutput printed
 examples = record { rescued = refl; cut = refl; nothing = λ first. refl; over = λ first. refl }
