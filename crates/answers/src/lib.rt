@@ -1,9 +1,11 @@
 // What a call of the store answers. What each call promises is in specs/: that it gives what the definitions say.
+#![tactic(auto)]
+
 use refusal::Refusal;
 use store_rules::Held;
 
 // What a call answers: each its own case, or a refusal. Entering answers whose the frame is that entered (`Whose`).
-#[derive(Drop)]
+#[derive(Clone, Copy)]
 pub enum Answer {
     // the frames held after a push
     Total(usize),
@@ -21,7 +23,7 @@ pub enum Answer {
 }
 
 // An answer, and the held part after the call.
-#[derive(Drop)]
+#[derive(Clone, Copy)]
 pub struct Outcome {
     pub answer: Answer,
     pub held: Held,

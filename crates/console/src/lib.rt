@@ -1,5 +1,7 @@
 // What the programs read and write. Standard input is read to a slice. Words, numbers and hex digits are put into a buffer, which goes to
 // standard output when it is full and at the end. What is written is no part of the logic, so the contracts say what waits in the buffer.
+#![tactic(auto)]
+
 ghost use Rattle.std.specs.Prelude.{◌≡◌, [], ◌∷◌, ◌++◌, ◌+◌, ◌≤◌, ltb, length, take};
 ghost use Rattle.console.specs.Waiting.{count, waits, behind, all_behind, decimal, counted, pairs};
 

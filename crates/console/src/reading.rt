@@ -4,7 +4,7 @@ ghost use Rattle.console.specs.Reading.{Within};
 use libc::STDIN_FILENO;
 
 // What reading came to: how many bytes, or that a read failed.
-#[derive(Drop)]
+#[derive(Clone, Copy)]
 pub enum Input {
     Read(usize),
     Failed,

@@ -13,7 +13,7 @@ use guards::guard_holds;
 use store_rules::{Entry, FrameState, HeldHead, ParkedFrame, gap_count, is_degraded, same_address};
 
 // What becomes of an entry: it stays and gives no row, or a row tells of it.
-#[derive(Drop)]
+#[derive(Clone, Copy)]
 pub enum Course {
     Silent,
     Tells(Telling),

@@ -13,7 +13,7 @@ use store_rules::{ParkedFrame, gap_count};
 
 // What a row tells of a frame: its nonce is consumed, a degraded frame is held, predecessors are unknown, its guard holds it back,
 // or it is rescued and leaves.
-#[derive(Drop)]
+#[derive(Clone, Copy)]
 pub enum Telling {
     Consumed,
     Hold,
@@ -23,7 +23,7 @@ pub enum Telling {
 }
 
 // How rows are written: in 19 numbers, or in five.
-#[derive(Drop)]
+#[derive(Clone, Copy)]
 pub enum RowForm {
     Long,
     Short,

@@ -13,7 +13,7 @@ use store_rules::{
 
 // By what entries are taken up: an eviction takes those of a sender, a reorganisation the tentative ones of its block whose block
 // hash differs, finality the tentative ones of blocks up to its own.
-#[derive(Drop)]
+#[derive(Clone, Copy)]
 pub enum Selecting {
     OfSender,
     Reorganised,
@@ -21,7 +21,7 @@ pub enum Selecting {
 }
 
 // What an entry is held to; each way of selecting looks at its own fields.
-#[derive(Drop)]
+#[derive(Clone, Copy)]
 pub struct Selection {
     pub by: Selecting,
     pub sender: [u8; 20],

@@ -1,4 +1,6 @@
 // Folds the journal of standard input and prints one line: what is pending, the totals and the end, or a refusal.
+#![tactic(auto)]
+
 use console::Input;
 
 // Refuses arguments, reads, puts the line, and writes it.

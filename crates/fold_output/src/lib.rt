@@ -1,4 +1,6 @@
 // What the program `fold` prints: the one line of the journal that was read, put into the buffer that goes to standard output.
+#![tactic(auto)]
+
 ghost use Rattle.std.specs.Prelude.{◌≡◌};
 ghost use Rattle.console.specs.Waiting.{waits, all_behind};
 ghost use Rattle.fold_output.specs.Lines.{refusal_line, totals_line, fold_line, journal_line, fold_output};

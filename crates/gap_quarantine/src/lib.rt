@@ -6,6 +6,7 @@
 // The calls stand twice. The functions of this crate are calls on the held part alone (`Held`, 15 KB), which is changed in place;
 // the guards' bodies (43 KB) are lent to the two that need them, a poll with content and the guard call. The methods of
 // `Quarantine` are the same calls on the whole store as one value.
+#![tactic(auto)]
 
 ghost use Rattle.std.specs.Prelude.{◌≡◌, true, []};
 ghost use Rattle.std.proofs.Math.Option.{none};
@@ -39,21 +40,21 @@ pub use store_rules::{
 // ---- answers
 
 // An answer, and the store after the call.
-#[derive(Drop)]
+#[derive(Clone, Copy)]
 pub struct Answered {
     pub answer: Answer,
     pub store: Quarantine,
 }
 
 // Whose the frame is that entered the tentative state, if one was found, and the held part after the call.
-#[derive(Drop)]
+#[derive(Clone, Copy)]
 pub struct Entered {
     pub whose: Whose,
     pub held: Held,
 }
 
 // The same, and the store after the call.
-#[derive(Drop)]
+#[derive(Clone, Copy)]
 pub struct EnteredStore {
     pub whose: Whose,
     pub store: Quarantine,
@@ -62,7 +63,7 @@ pub struct EnteredStore {
 // ---- the store as one value
 
 // The held part, and the bodies of the guards: 20 numbers and 512 bytes a guard, in the places of the labels.
-#[derive(Drop)]
+#[derive(Clone, Copy)]
 pub struct Quarantine {
     pub held: Held,
     pub guard_numbers: [u64; 1280],

@@ -1,4 +1,6 @@
 // The exported C functions: the fold of a journal, the restore of a frame and the writers of the records, on numbers and byte slices.
+#![tactic(auto)]
+
 ghost use Rattle.std.specs.Prelude.{◌≡◌};
 ghost use Rattle.journal_exports.specs.Export.{exported, exported_frame};
 

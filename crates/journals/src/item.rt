@@ -6,14 +6,14 @@ use console::Input;
 pub(crate) const LONGEST: usize = 65537;
 
 // What is done with an item's bytes.
-#[derive(Drop)]
+#[derive(Clone, Copy)]
 pub(crate) enum Kind {
     Fold,
     Restore,
     Rewrite,
 }
 
-#[derive(Drop)]
+#[derive(Clone, Copy)]
 pub(crate) struct Head {
     pub(crate) kind: Kind,
     pub(crate) len: usize,
@@ -23,7 +23,7 @@ pub(crate) struct Head {
 }
 
 // What comes next: an item, the end, an item that breaks off or is over a limit, or input that cannot be read.
-#[derive(Drop)]
+#[derive(Clone, Copy)]
 pub(crate) enum Next {
     Item(Head),
     End,

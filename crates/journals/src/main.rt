@@ -1,4 +1,6 @@
 // Folds the journals of standard input, restores what is pending and records alone, writes records again, and prints every answer.
+#![tactic(auto)]
+
 use console::Output;
 use item::{Head, Kind, Next};
 use journal_writer::WriteAnswer;

@@ -1,4 +1,6 @@
 // Lists of bytes and of numbers: equality, byte order and membership, and numbers written to a slice.
+#![tactic(auto)]
+
 ghost use Rattle.std.specs.Prelude.{◌≡◌, ◌+◌, ◌≤◌, length};
 ghost use Rattle.lists.specs.Bytes.{eq_bytes, eq_numbers, le_bytes};
 ghost use Rattle.lists.specs.Lists.{is_in, written_at};

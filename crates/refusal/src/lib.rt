@@ -1,8 +1,10 @@
 // The nineteen refusals, and the number of each: document 01's sixteen, and those of requests 2027-05 and 2027-06.
+#![tactic(auto)]
+
 ghost use Rattle.std.specs.Prelude.{◌≡◌};
 ghost use Rattle.refusal.specs.Numbers.{refusal_number};
 
-#[derive(Drop)]
+#[derive(Clone, Copy)]
 pub enum Refusal {
     // push: claim exceeds expected by more than 16; 64 frames held
     WideGap,

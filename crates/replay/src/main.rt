@@ -1,4 +1,6 @@
 // Runs scripts of store calls from standard input, and prints what each call answers.
+#![tactic(auto)]
+
 ghost use Rattle.std.specs.Prelude.{◌≡◌, ◌≤◌, length};
 
 use console::{Input, Output};
@@ -13,7 +15,7 @@ mod reads; // reads.rt: the calls that only read
 const INPUT: usize = 1048576;
 
 // A call that was run: its size in bytes, 0 where no call stands, and the store after it.
-#[derive(Drop)]
+#[derive(Clone, Copy)]
 struct Ran {
     size: usize,
     store: Quarantine,
@@ -70,7 +72,7 @@ fn run_script(out: &mut Output, s: &[u8]) {
 }
 
 // The next script of standard input: its length; or the end; or input that breaks off or is over a limit; or input that cannot be read.
-#[derive(Drop)]
+#[derive(Clone, Copy)]
 enum Next {
     Script(usize),
     End,

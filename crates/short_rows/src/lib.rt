@@ -1,18 +1,20 @@
 // The mark of a short row: 16 bits, lowest first, for the nonces from the expected one on, set where a nonce is listed.
+#![tactic(auto)]
+
 ghost use Rattle.std.specs.Prelude.{◌≡◌, ◌+◌};
 ghost use mathlib.Core.List.{head?};
 ghost use Rattle.short_rows.specs.Mark.{mark_of};
 ghost use Rattle.short_rows.specs.Reading.{is_nonce, nonces_read, Lists, first_seen};
 
 // Nonces in ascending order, up to the count; behind them zeros.
-#[derive(Drop)]
+#[derive(Clone, Copy)]
 pub struct Nonces {
     pub at: [u64; 16],
     pub count: usize,
 }
 
 // The first nonce of a short row, if it lists one.
-#[derive(Drop)]
+#[derive(Clone, Copy)]
 pub enum FirstNonce {
     None,
     At(u64),

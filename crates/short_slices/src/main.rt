@@ -1,6 +1,8 @@
 // Refusal 5 of each call that lists: the call is lent a slice that is one element short, and then one that is just long enough. Of a
 // sweep the refusals that come before 5 too. Behind those come the same calls with longer slices, and what no script asks, whether a
 // store is empty.
+#![tactic(auto)]
+
 use gap_quarantine::{NonceConsumed, ParkedFrame, Quarantine};
 
 mod changing; // changing.rt: the calls that may change the store

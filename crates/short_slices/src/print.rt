@@ -58,7 +58,7 @@ pub(crate) fn is_empty(out: &mut Output, what: &[u8], q: Quarantine) {
 // ---- slices
 
 // How a slice is named: the only one of its call, or one of two.
-#[derive(Drop)]
+#[derive(Clone, Copy)]
 pub(crate) enum Name {
     Only,
     Numbers,

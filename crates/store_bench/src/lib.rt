@@ -1,5 +1,7 @@
 // Loops over store calls, for drivers that time them. Each makes its store, runs so many rounds, at most 2^32, and answers how
 // many rows or frames the answers told of. All but one run on the held part of a store.
+#![tactic(auto)]
+
 ghost use Rattle.std.specs.Prelude.{◌≡◌, ◌*◌, min};
 ghost use Rattle.store_bench.specs.Loads.{polled_in_turn, sized};
 

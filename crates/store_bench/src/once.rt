@@ -10,7 +10,7 @@ use gap_quarantine::{Held, NonceConsumed};
 
 // ---- calls that read no guard's body
 
-#[derive(Drop)]
+#[derive(Clone, Copy)]
 pub(crate) enum Once {
     Push,
     Wait,

@@ -1,4 +1,6 @@
 // Parked frames and rescue guards as values, and what every call does with them: the definitions are written from document 01.
+#![tactic(auto)]
+
 ghost use Rattle.std.specs.Prelude.{◌≡◌, ◌+◌, ◌-◌, ◌≤◌, min, length};
 ghost use Rattle.lists.specs.Bytes.{Bytes, eq_bytes};
 ghost use Rattle.store_rules.specs.Frames.{degraded};
@@ -17,28 +19,28 @@ pub use matching::guard_matches;
 
 // Who consumed a frame's nonce, and in which block: the frame itself, another transaction, or another whose hash is known.
 // The block's hash and the taker's stand beside the state in the entry.
-#[derive(Drop)]
+#[derive(Clone, Copy)]
 pub enum NonceConsumed {
     MinedAt(u64),
     SlotTakenAt(u64),
     SlotTakenBy(u64),
 }
 
-#[derive(Drop)]
+#[derive(Clone, Copy)]
 pub enum FrameState {
     Tracked,
     Tentative(NonceConsumed),
 }
 
 // The last head for which a degraded frame was reported as waiting.
-#[derive(Drop)]
+#[derive(Clone, Copy)]
 pub enum HeldHead {
     Never,
     At(u64),
 }
 
 // A frame parked at its gap. The ticket is the caller's own, and is never compared.
-#[derive(Drop)]
+#[derive(Clone, Copy)]
 pub struct ParkedFrame {
     pub hash: [u8; 32],
     pub from: [u8; 20],
@@ -50,7 +52,7 @@ pub struct ParkedFrame {
 }
 
 // A held frame with its standing. The last two arrays mean something only in a tentative entry.
-#[derive(Drop)]
+#[derive(Clone, Copy)]
 pub struct Entry {
     pub frame: ParkedFrame,
     pub state: FrameState,
@@ -96,7 +98,7 @@ impl Entry {
 }
 
 // Why a rescue is known to be futile; a re-park carries its boundary.
-#[derive(Drop)]
+#[derive(Clone, Copy)]
 pub enum RescueKind {
     Reparked(u64),
     Unhydratable,
@@ -106,7 +108,7 @@ pub enum RescueKind {
 
 // The held frames, the first `len` of the entries: ascending address, then push order. And which guards stand: the labels of the
 // first `guards` guards, 33 bytes each, a hash and 1 while the guard stands. What a guard compares, its body, lies elsewhere.
-#[derive(Drop)]
+#[derive(Clone, Copy)]
 pub struct Held {
     pub entries: [Entry; 64],
     pub len: usize,

@@ -8,7 +8,7 @@ use super::{Entry, FrameState, same_address, same_hash};
 
 // Whose a held frame is: its sender, and its place among that sender's held frames in push order, counted from 0. Zeros stand
 // where no frame was found.
-#[derive(Drop)]
+#[derive(Clone, Copy)]
 pub struct Whose {
     pub found: bool,
     pub sender: [u8; 20],
@@ -17,7 +17,7 @@ pub struct Whose {
 
 // The first sought entry of those that were walked: where it stands, or the number of all entries; and whose it is, as far as
 // those before it were walked.
-#[derive(Drop)]
+#[derive(Clone, Copy)]
 pub struct Search {
     pub at: usize,
     pub whose: Whose,

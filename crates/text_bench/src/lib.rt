@@ -1,4 +1,6 @@
 // One canonical text written and one hash read, as C functions: what is timed of the hashes as text.
+#![tactic(auto)]
+
 ghost use Rattle.std.specs.Prelude.{◌≡◌};
 ghost use Rattle.std.proofs.Math.Option.{get_or};
 ghost use Rattle.wire.specs.HashText.{canonical, parses, parse_hash};

@@ -1,5 +1,7 @@
 // Runs the trace of standard input from an empty store, and prints a line a call: its place, and the number of its refusal or 0. If the
 // trace is whole, its totals follow.
+#![tactic(auto)]
+
 use console::Input;
 
 // Refuses arguments, reads, puts the lines, and writes them.

@@ -1,4 +1,6 @@
 // One call of a trace (request 2027-06): read from the bytes that begin with it, and made on the store.
+#![tactic(auto)]
+
 ghost use Rattle.std.specs.Prelude.{◌≡◌};
 ghost use Rattle.store_rules.specs.Store.{long};
 ghost use Rattle.trace_format.specs.Reading.{read_call};
@@ -13,7 +15,7 @@ pub use calls::make_poll;
 pub use decisions::rows::RowForm;
 
 // What a call answers. Entering answers whose the frame is that entered.
-#[derive(Drop)]
+#[derive(Clone, Copy)]
 pub enum Reply {
     Answered(Answer),
     Entered,
@@ -21,7 +23,7 @@ pub enum Reply {
 
 // A call that was made: its size in bytes, whether it is an eviction, its reply, whose the frame is that entered, zeros at any other
 // call, and the store after it. Where no call stands the size is 0 and the reply is refusal 19.
-#[derive(Drop)]
+#[derive(Clone, Copy)]
 pub struct Made {
     pub size: usize,
     pub evicts: bool,

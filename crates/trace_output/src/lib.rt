@@ -1,5 +1,7 @@
 // What the program `trace` prints: a line for each call of the trace that was read, and the totals if it is whole, put into the buffer
 // that goes to standard output.
+#![tactic(auto)]
+
 ghost use Rattle.std.specs.Prelude.{◌≡◌};
 ghost use Rattle.console.specs.Waiting.{waits, all_behind};
 ghost use Rattle.trace_format.specs.Traces.{read_trace};

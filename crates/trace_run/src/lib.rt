@@ -1,4 +1,6 @@
 // A trace, run from an empty store (request 2027-06), and its totals (request 2027-07).
+#![tactic(auto)]
+
 ghost use Rattle.std.specs.Prelude.{◌≡◌, false, [], ◌∷◌, ◌+◌, ◌≤◌, ◌<◌, length};
 ghost use Rattle.lists.specs.Lists.{written};
 ghost use Rattle.store_rules.specs.Store.{empty};
@@ -20,7 +22,7 @@ pub const MOST_LINES: usize = 6554;
 
 // How many lines there are, whether the trace is whole, so that none of them is a 19, the totals of the calls that were made, and the
 // store at the end.
-#[derive(Drop)]
+#[derive(Clone, Copy)]
 pub struct Ran {
     pub lines: usize,
     pub whole: bool,

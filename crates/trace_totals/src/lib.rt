@@ -1,4 +1,6 @@
 // The running totals of a trace (request 2027-07): what each answer adds to them.
+#![tactic(auto)]
+
 ghost use Rattle.std.specs.Prelude.{◌≡◌, ◌+◌, ◌*◌, ◌≤◌, length};
 ghost use Rattle.answers.specs.Promises.{heard};
 ghost use Rattle.trace_totals.specs.Counting.{zero, with_held, rescue_rows, plus, Below, numbers_said, counted};
@@ -6,7 +8,7 @@ ghost use Rattle.trace_totals.specs.Counting.{zero, with_held, rescue_rows, plus
 use answers::Answer;
 
 // How many frames pushes have accepted, and how many polls have rescued, finality has ended and evictions have taken out.
-#[derive(Drop)]
+#[derive(Clone, Copy)]
 pub struct Counts {
     pub accepted: usize,
     pub rescued: usize,
@@ -15,7 +17,7 @@ pub struct Counts {
 }
 
 // The five totals: the frames that pushes accepted, and those that are held at the end, were rescued, are dead or were evicted.
-#[derive(Drop)]
+#[derive(Clone, Copy)]
 pub struct Totals {
     pub accepted: usize,
     pub held: usize,
