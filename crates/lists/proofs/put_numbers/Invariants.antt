@@ -1,0 +1,14 @@
+use Prim.Native.Nat.{◌-◌, ◌≤◌}
+use mathlib.Core.Path.{◌≡◌, sym}
+use lib.ListN.{length, take, length-set, take-append-drop}
+use lib.Seq.{take_all}
+use Rattle.lists.specs.Lists.{written_at}
+use Rattle.lists.proofs.Writing.{copy_more}
+use borrow.Author.Rules.{rules}
+use Rattle.lists.proofs.put_numbers.Given as goal
+
+abbrev pub invariant-loop-i : goal.invariant-loop-i
+invariant-loop-i l = (l.i ≤ length l.numbers) × (length l.out ≡ length l.initial.out) × (l.out ≡ written_at l.at (take l.i l.numbers) l.initial.out)
+
+abbrev pub decreases-loop-i : goal.decreases-loop-i
+decreases-loop-i l = length l.numbers - l.i
