@@ -1,0 +1,13 @@
+use Prim.Native.Nat.{◌+◌, ◌-◌, ◌^◌}
+use native.Mathlib.Omega.{arith}
+use mathlib.Core.Path.{refl, sym, ◌∙◌}
+use borrow.Author.Tests.{ltb-true}
+use Rattle.short_rows.proofs.Reading.{Reads, read_none, read-nonce, read-beyond, read-unset, read_all}
+use borrow.Author.Rules.{rules}
+use Rattle.short_rows.proofs.nonces_of.Given as goal
+
+abbrev pub invariant-loop-i : goal.invariant-loop-i
+invariant-loop-i l = Reads l.expected l.mark l.at l.count l.rest l.i
+
+abbrev pub decreases-loop-i : goal.decreases-loop-i
+decreases-loop-i l = 16 - l.i
