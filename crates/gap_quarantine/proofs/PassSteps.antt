@@ -79,11 +79,11 @@ unfolding collect
 nothing [] = refl
 nothing (x ∷ xs) = nothing xs
 
-numbers_of : (by : Selecting) (l : List Entry) → numbers_of long (answer_with by l) ≡ collect (numbers_for by) l
+numbers_of_lem : (by : Selecting) (l : List Entry) → numbers_of long (answer_with by l) ≡ collect (numbers_for by) l
 unfolding numbers_of
-numbers_of OfSender l = collect-map (λ e. e.frame) ticket_numbers l
-numbers_of Reorganised l = collect-map (λ e. e.frame) ticket_numbers l
-numbers_of Finalized l = collect-map dead_of dead_numbers l
+numbers_of_lem OfSender l = collect-map (λ e. e.frame) ticket_numbers l
+numbers_of_lem Reorganised l = collect-map (λ e. e.frame) ticket_numbers l
+numbers_of_lem Finalized l = collect-map dead_of dead_numbers l
 
 bytes-of : (by : Selecting) (l : List Entry) → bytes_of (answer_with by l) ≡ collect (bytes_for by) l
 unfolding bytes_of
@@ -138,7 +138,7 @@ module _ (q : Held) (s : Selection) (numbers bytes : List ℕ) (count : ℕ) (co
       record {
         store = rw (u, t) (ap₂ (λ (l : List Entry) (g : List Guard). record { entries = l; guards = g }) pass.stayed pass.guarded);
         answer = rw (u, t) (said_of s.by n _ (many ∙ ap length pass.listed));
-        numbers_after = rw (u, t, numbers_of s.by) (a ∙ rw pass.listed);
+        numbers_after = rw (u, t, numbers_of_lem s.by) (a ∙ rw pass.listed);
         bytes_after = rw (u, t, bytes-of s.by) (b ∙ rw pass.listed);
         kept = λ m e. absurd (never-refused s.by n m e);
       }

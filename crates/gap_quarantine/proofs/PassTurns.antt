@@ -7,7 +7,6 @@ use mathlib.Core.Option.{none}
 use mathlib.Core.List.{List, [], ◌∷◌, map}
 use lib.Dec.{ltb}
 use lib.ListN.{length, take, get_or, set}
-use types.Run.{OneOf, miss}
 use denote.Enum.Declared.{tag_of}
 use Rattle.lists.specs.Bytes.{Bytes}
 use Rattle.lists.specs.Lists.{keep}
@@ -66,15 +65,15 @@ begins s len guards entries labels many numbers bytes fits counts a b whole =
     whole
 
 -- an eviction and finality list an entry as it is
-pub as-it-is : (by : Selecting) (e : Entry) → OneOf (0 ∷ 2 ∷ []) (tag_of the_type by) → e ≡ listed_as by e
+pub as-it-is : (by : Selecting) (e : Entry) → (by ≡ Reorganised → ⊥) → e ≡ listed_as by e
 as-it-is OfSender e k = refl
-as-it-is Reorganised e k = absurd (miss (0 ∷ 2 ∷ []) 1 tt k)
+as-it-is Reorganised e k = absurd (k refl)
 as-it-is Finalized e k = refl
 
 -- .. and let none stay
-goes : (by : Selecting) (e : Entry) → OneOf (0 ∷ 2 ∷ []) (tag_of the_type by) → stays_as by e ≡ none
+goes : (by : Selecting) (e : Entry) → (by ≡ Reorganised → ⊥) → stays_as by e ≡ none
 goes OfSender e k = refl
-goes Reorganised e k = absurd (miss (0 ∷ 2 ∷ []) 1 tt k)
+goes Reorganised e k = absurd (k refl)
 goes Finalized e k = refl
 
 module _ (s : Selection) (len guards : ℕ) (entries₀ : List coded.Entry) (labels₀ : Bytes) (many : ℕ) (numbers₀ bytes₀ : List ℕ) (entries : List coded.Entry) (labels : Bytes)
@@ -103,7 +102,7 @@ module _ (s : Selection) (len guards : ℕ) (entries₀ : List coded.Entry) (lab
           kept _ _ _ _ _ _ len guards entries₀ labels₀ many numbers₀ bytes₀ entries labels numbers bytes n w i t d more _ true (listed_as s.by e) (λ b l. takes s e is) labels' (λ b l. sym (drops b)) numbers' bytes'
           (numbers-width s.by _) (rw same at wrote.2) (rw same at wrote.0) (rw same at wrote.1) (revived e).standing f (rw by) seen
 
-      pub left_one : OneOf (0 ∷ 2 ∷ []) (tag_of the_type s.by) → Passing s len guards entries₀ labels₀ many numbers₀ bytes₀ entries labels' numbers' bytes' (n + 1) w (i + 1)
+      pub left_one : (s.by ≡ Reorganised → ⊥) → Passing s len guards entries₀ labels₀ many numbers₀ bytes₀ entries labels' numbers' bytes' (n + 1) w (i + 1)
       left_one by =
           let e : Entry = entry_of (get_or entries i d) in
           left _ _ _ _ _ _ len guards entries₀ labels₀ many numbers₀ bytes₀ entries labels numbers bytes n w i t d more _ true (listed_as s.by e) (λ b l. takes s e is) labels' (λ b l. sym (drops b)) numbers' bytes'

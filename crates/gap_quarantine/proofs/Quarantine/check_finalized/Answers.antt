@@ -1,0 +1,6 @@
+use borrow.Author.Rules.{rules}
+use Rattle.gap_quarantine.proofs.Whole.{whole}
+use Rattle.gap_quarantine.proofs.Quarantine.check_finalized.Goals as goal
+
+pub returns : goal.returns
+returns c = whole _ _ _ _ _ _ _ _ _ (c.check_finalized.ensures _) c.after.ensures

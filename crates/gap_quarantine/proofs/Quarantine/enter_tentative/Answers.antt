@@ -1,0 +1,6 @@
+use Rattle.gap_quarantine.proofs.Whole.{whole-gives}
+use borrow.Author.Rules.{rules}
+use Rattle.gap_quarantine.proofs.Quarantine.enter_tentative.Goals as goal
+
+pub returns : goal.returns
+returns c = whole-gives _ _ _ _ _ _ _ _ _ (c.enter_tentative-r.ensures _)

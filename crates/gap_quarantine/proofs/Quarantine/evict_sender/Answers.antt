@@ -1,0 +1,6 @@
+use borrow.Author.Rules.{rules}
+use Rattle.gap_quarantine.proofs.Whole.{whole}
+use Rattle.gap_quarantine.proofs.Quarantine.evict_sender.Goals as goal
+
+pub returns : goal.returns
+returns c = whole _ _ _ _ _ _ _ _ _ (c.evict_sender.ensures _) c.after.ensures

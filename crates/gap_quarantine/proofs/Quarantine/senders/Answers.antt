@@ -1,0 +1,5 @@
+use borrow.Author.Rules.{rules}
+use Rattle.gap_quarantine.proofs.Quarantine.senders.Goals as goal
+
+pub returns : goal.returns
+returns c = c.senders.ensures _

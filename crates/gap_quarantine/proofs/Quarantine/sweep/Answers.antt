@@ -1,0 +1,6 @@
+use Rattle.gap_quarantine.proofs.Whole.{whole}
+use borrow.Author.Rules.{rules}
+use Rattle.gap_quarantine.proofs.Quarantine.sweep.Goals as goal
+
+pub returns : goal.returns
+returns c = whole _ _ _ _ _ _ _ _ _ (c.sweep.ensures _) c.after.ensures
