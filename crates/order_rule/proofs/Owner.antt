@@ -80,10 +80,10 @@ owner-found (c ∷ cs) f one m = go (push_of c) refl (Memᴰ.cases_cons m) (owne
 pub owned-call : (cs : List Call) → OneSender cs → (c : Call) → Memᴰ c cs → OwnedCall (owner_in cs) c
 owned-call cs one c m f e = owner-found cs f (λ g n q. one g f n (Memᴰ.cast (sym e) m) q) (Memᴰ.cast (sym e) m)
 
-pub mem-pushes : (es : List Entry) (e : Entry) → Memᴰ e es → Memᴰ (push e.frame) (pushes_of es)
+pub mem-pushes : (e : Entry) (es : List Entry) → Memᴰ e es → Memᴰ (push e.frame) (pushes_of es)
 unfolding pushes_of
-mem-pushes es e (Memᴰ.head q) = Memᴰ.head (ap (λ (x : Entry). push x.frame) q)
-mem-pushes es e (Memᴰ.tail {xs = xs} m) = Memᴰ.tail (mem-pushes xs e m)
+mem-pushes e es (Memᴰ.head q) = Memᴰ.head (ap (λ (x : Entry). push x.frame) q)
+mem-pushes e es (Memᴰ.tail {xs = xs} m) = Memᴰ.tail (mem-pushes e xs m)
 
 -- ---- two orders have the same owners
 

@@ -103,7 +103,7 @@ module _ {A : Type 0} (s : Store) (h : Sorted s.entries) (read : List A → List
       call-owned c k = owned-call (held ++ read xs) one c (Memᴰ.append_right held k)
 
       entry-owned : (e : Entry) → Memᴰ e s.entries → OwnedFrame owner e.frame
-      entry-owned e k = owned-call (held ++ read xs) one (push e.frame) (Memᴰ.append_left (read xs) (mem-pushes s.entries e k)) e.frame refl
+      entry-owned e k = owned-call (held ++ read xs) one (push e.frame) (Memᴰ.append_left (read xs) (mem-pushes e s.entries k)) e.frame refl
 
 -- the rule's premise on the store: every call keeps walk order
 pub step-sorted : (s : Store) (q : Request) → Sorted s.entries → Sorted (step s q).0.entries

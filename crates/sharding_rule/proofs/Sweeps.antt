@@ -1,6 +1,6 @@
 -- A sweep of those senders of another that pass a test (`sweep_of`): if the whole is not refused for its inputs, neither is the part; its
 -- polls are the senders' polls of the whole, and their entries are no more.
-use Prim.Native.Nat.{ℕ, ◌+◌, ◌≤◌}
+use Prim.Native.Nat.{ℕ, ◌≤◌}
 use native.Mathlib.Omega.{arith}
 use mathlib.Core.Path.{◌≡◌, refl, ap, ◌∙◌}
 use mathlib.Core.Bool.{Bool, true, false, cond}

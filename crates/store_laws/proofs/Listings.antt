@@ -201,9 +201,9 @@ below_both n m k = go (ltb n m) refl (ltb n k) refl
     go false p c q = let l = ltb-false n m p in sym (le-ltb n (min m k) (omega arith))
 
 module _ (head pending_count n : ℕ) where
-  in_window : (e : Entry) → wide_gap e.frame ≡ false → is_in n (window head pending_count e) ≡ in_window head pending_count n e
+  window-at : (e : Entry) → wide_gap e.frame ≡ false → is_in n (window head pending_count e) ≡ in_window head pending_count n e
   unfolding window in_window is_in
-  in_window e h = go (is_tracked e.standing.state && not (degraded e.frame))
+  window-at e h = go (is_tracked e.standing.state && not (degraded e.frame))
     where
       f : Frame
       f = e.frame
@@ -225,7 +225,7 @@ module _ (head pending_count n : ℕ) where
   in-windows : (es : List Entry) → Each (λ e. wide_gap e.frame ≡ false) es → is_in n (collect (window head pending_count) es) ≡ not (is_empty (keep (in_window head pending_count n) es))
   unfolding collect keep is_empty is_in
   in-windows [] h = refl
-  in-windows (e ∷ es) h = in-append n (window head pending_count e) (collect (window head pending_count) es) ∙ rw (in_window e h.0, in-windows es h.1) (go (in_window head pending_count n e))
+  in-windows (e ∷ es) h = in-append n (window head pending_count e) (collect (window head pending_count) es) ∙ rw (window-at e h.0, in-windows es h.1) (go (in_window head pending_count n e))
     where
       kept : List Entry
       kept = keep (in_window head pending_count n) es

@@ -33,9 +33,13 @@ module _ (ns : List ℕ) where
 
 input-among : (c : Call) → Among (place_numbers c) (input_refusal c)
 unfolding input_refusal place_numbers is_in
-input-among (push f) = among-when _ _ 1 refl
-input-among (poll a head known content) = among-or_else _ _ _ (among-when _ _ 3 refl) (among-when _ _ 4 refl)
-input-among (guard g) = among-or_else _ _ _ (among-when _ _ 6 refl) (among-when _ _ 7 refl)
+input-among (push f) = among-when (place_numbers (push f)) _ 1 refl
+input-among (poll a head known content) =
+    let ns = place_numbers (poll a head known content) in
+    among-or_else ns _ _ (among-when ns _ 3 refl) (among-when ns _ 4 refl)
+input-among (guard g) =
+    let ns = place_numbers (guard g) in
+    among-or_else ns _ _ (among-when ns _ 6 refl) (among-when ns _ 7 refl)
 input-among (enter_tentative h c) = tt
 input-among (check_reorg b canonical) = tt
 input-among (check_finalized n) = tt
@@ -47,18 +51,18 @@ about_room = 2 ∷ 5 ∷ 8 ∷ []
 
 room-among : (s : Store) (c : Call) (form : RowForm) (numbers bytes : ℕ) → Among (place_numbers c) (room_refusal s c form numbers bytes) × Among about_room (room_refusal s c form numbers bytes)
 unfolding room_refusal place_numbers is_in about_room
-room-among s (push f) form numbers bytes = (among-when _ _ 2 refl, among-when _ _ 2 refl)
-room-among s (poll a head known content) form numbers bytes = (among-when _ _ 5 refl, among-when _ _ 5 refl)
-room-among s (guard g) form numbers bytes = (among-when _ _ 8 refl, among-when _ _ 8 refl)
+room-among s (push f) form numbers bytes = (among-when (place_numbers (push f)) _ 2 refl, among-when about_room _ 2 refl)
+room-among s (poll a head known content) form numbers bytes = (among-when (place_numbers (poll a head known content)) _ 5 refl, among-when about_room _ 5 refl)
+room-among s (guard g) form numbers bytes = (among-when (place_numbers (guard g)) _ 8 refl, among-when about_room _ 8 refl)
 room-among s (enter_tentative h c) form numbers bytes = (tt, tt)
-room-among s (check_reorg b canonical) form numbers bytes = (among-when _ _ 5 refl, among-when _ _ 5 refl)
-room-among s (check_finalized n) form numbers bytes = (among-when _ _ 5 refl, among-when _ _ 5 refl)
-room-among s (evict_sender a) form numbers bytes = (among-when _ _ 5 refl, among-when _ _ 5 refl)
+room-among s (check_reorg b canonical) form numbers bytes = (among-when (place_numbers (check_reorg b canonical)) _ 5 refl, among-when about_room _ 5 refl)
+room-among s (check_finalized n) form numbers bytes = (among-when (place_numbers (check_finalized n)) _ 5 refl, among-when about_room _ 5 refl)
+room-among s (evict_sender a) form numbers bytes = (among-when (place_numbers (evict_sender a)) _ 5 refl, among-when about_room _ 5 refl)
 
 pub refused-by-place : RefusedByPlace
 unfolding refusal
 refused-by-place s q n e =
-    subst (Among (place_numbers q.call)) e (among-or_else _ _ _ (input-among q.call) (room-among s q.call q.form q.numbers q.bytes).0)
+    subst (Among (place_numbers q.call)) e (among-or_else (place_numbers q.call) _ _ (input-among q.call) (room-among s q.call q.form q.numbers q.bytes).0)
 
 pub refused-by-inputs : RefusedByInputs
 unfolding refusal or_else about_room
@@ -90,7 +94,8 @@ refused-changes-nothing s q n e = rw e
 sweep-among : (s : Store) (w : Sweep) → Among sweep_numbers (sweep_refusal s w)
 unfolding sweep_refusal sweep_input_refusal sweep_room_refusal sweep_numbers is_in
 sweep-among s w =
-    among-or_else _ _ _ (among-or_else _ _ _ (among-when _ _ 17 refl) (among-or_else _ _ _ (among-when _ _ 18 refl) (among-when _ _ 3 refl))) (among-when _ _ 5 refl)
+    let ns = sweep_numbers in
+    among-or_else ns _ _ (among-or_else ns _ _ (among-when ns _ 17 refl) (among-or_else ns _ _ (among-when ns _ 18 refl) (among-when ns _ 3 refl))) (among-when ns _ 5 refl)
 
 pub every-sweep-refusal : EverySweepRefusal
 unfolding sweep_step sweep_refusal sweep_room_refusal unless or_else

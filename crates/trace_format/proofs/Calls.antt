@@ -35,6 +35,7 @@ read-no-call bs e n zero h = rw e
 read-no-call bs e n (suc k) h = rw e (go (read_call bs) n)
   where
     go : (r : ReadCall) → NotRead r → starting_with r (λ rest. read_calls k rest) ≡ no_calls false
+    go (got c rest) n = absurd n
     go cut_short n = refl
     go bad n = refl
 

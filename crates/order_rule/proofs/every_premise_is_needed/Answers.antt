@@ -1,0 +1,5 @@
+use Rattle.order_rule.proofs.Premises.{premises}
+use Rattle.order_rule.proofs.every_premise_is_needed.Goals as goal
+
+pub returns : goal.returns
+returns c = premises

@@ -1,0 +1,5 @@
+use Rattle.store_laws.proofs.Lookups.{every-lookup}
+use Rattle.store_laws.proofs.every_lookup.Goals as goal
+
+pub returns : goal.returns
+returns c = every-lookup
