@@ -5,11 +5,12 @@
 ghost use Rattle.std.specs.Prelude.{◌≡◌, [], ◌∷◌, ◌++◌, ◌+◌, ◌≤◌, ltb, length, take};
 ghost use Rattle.console.specs.Waiting.{count, waits, behind, all_behind, decimal, counted, pairs};
 
-use libc::{STDERR_FILENO, STDOUT_FILENO};
-
+mod failures; // failures.rt: what is said of a read or a write that failed
 mod reading; // reading.rt: standard input
 
 pub use reading::{Input, read_input};
+use std::env::FillError;
+use std::rt::Env;
 
 // How many bytes wait at most.
 const ROOM: usize = 4096;
@@ -45,30 +46,32 @@ fn put(out: &mut Output, at: usize, t: &[u8])
 
 // Writes bytes to standard output, unless a write has failed before, and returns whether one has failed by now: 0 if none has. The
 // first that fails is a line on standard error, with its reason.
-fn write(failed: u8, bytes: &[u8]) -> u8 {
+fn write(rt: HostRuntime, failed: u8, bytes: &[u8]) -> u8 {
     if failed != 0 {
         return failed;
     }
-    if io::write_all(STDOUT_FILENO, bytes) {
-        return 0;
+    match rt.write_all(bytes) {
+        Ok(()) => 0,
+        Err(e) => {
+            failures::fail(rt, "standard output", e);
+            1
+        }
     }
-    os::fail(b"standard output");
-    1
 }
 
 // Writes what waits.
-pub fn flush(out: &mut Output)
+pub fn flush(rt: HostRuntime, out: &mut Output)
     ensures { waits out.new ≡ [] }
 {
     let n = waiting(out);
     let all = &out[..];
-    let failed = write(all[FAILED], &all[0..n]);
+    let failed = write(rt, all[FAILED], &all[0..n]);
     out[FAILED] = failed;
     put(out, 0, b"");
 }
 
 // Puts a text behind what waits. What waits is written first where there is no room for it.
-pub fn text(out: &mut Output, t: &[u8])
+pub fn text(rt: HostRuntime, out: &mut Output, t: &[u8])
     ensures { waits out.new ≡ behind (waits out.old) t.now }
 {
     let at = waiting(out);
@@ -76,61 +79,73 @@ pub fn text(out: &mut Output, t: &[u8])
         put(out, at, t);
         return;
     }
-    flush(out);
+    flush(rt, out);
     if t.len() <= ROOM {
         put(out, 0, t);
         return;
     }
-    let failed = write(out[FAILED], t);
+    let failed = write(rt, out[FAILED], t);
     out[FAILED] = failed;
 }
 
 // Puts a number's decimal digits.
-pub fn number(out: &mut Output, n: u64)
+pub fn number(rt: HostRuntime, out: &mut Output, n: u64)
     ensures { waits out.new ≡ behind (waits out.old) (decimal n) }
 {
     let mut digits = [0u8; 20];
     let k = io::decimal(n, &mut digits);
-    text(out, &digits[..k]);
+    text(rt, out, &digits[..k]);
 }
 
 // Puts a number with a space before it.
-pub fn next(out: &mut Output, n: u64)
+pub fn next(rt: HostRuntime, out: &mut Output, n: u64)
     ensures { waits out.new ≡ behind (behind (waits out.old) (32 ∷ [])) (decimal n) }
 {
-    text(out, b" ");
-    number(out, n);
+    text(rt, out, b" ");
+    number(rt, out, n);
 }
 
 // Puts bytes as lowercase hex digits.
-pub fn hex(out: &mut Output, bytes: &[u8])
+pub fn hex(rt: HostRuntime, out: &mut Output, bytes: &[u8])
     ensures { waits out.new ≡ all_behind (waits out.old) (pairs bytes.now) }
 {
     let pairs = wire::hex_pairs();
     let mut i = 0;
     while i < bytes.len() {
         let pair = wire::hex_pair(&pairs, bytes[i]);
-        text(out, &pair);
+        text(rt, out, &pair);
         i += 1;
     }
 }
 
 // Puts a word, a space and a number.
-pub fn count(out: &mut Output, word: &[u8], n: u64)
+pub fn count(rt: HostRuntime, out: &mut Output, word: &[u8], n: u64)
     ensures { waits out.new ≡ all_behind (waits out.old) (counted word.now n) }
 {
-    text(out, word);
-    next(out, n);
+    text(rt, out, word);
+    next(rt, out, n);
+}
+
+// How many arguments a program was started with: its own name counts among them.
+pub fn argument_count(rt: HostRuntime) -> usize {
+    let mut front = [0u8; 1];
+    for i in 0..usize::MAX {
+        // One that is longer than a byte is there too, whatever its bytes are.
+        if let Err(FillError::NotPresent) = rt.arg(i, &mut front) {
+            return i;
+        }
+    }
+    usize::MAX
 }
 
 // Whether a program that takes no argument was given one: its own name counts among them. If so, its usage goes to standard
 // error.
-pub fn is_misused(arguments: usize, usage: &[u8]) -> bool
+pub fn is_misused(rt: HostRuntime, arguments: usize, usage: &[u8]) -> bool
     ensures { result ≡ ltb 1 arguments }
 {
     if arguments <= 1 {
         return false;
     }
-    io::write_all(STDERR_FILENO, usage);
+    let _ = rt.stderr().write_all(usage);
     true
 }

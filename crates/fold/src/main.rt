@@ -4,15 +4,15 @@
 use console::Input;
 
 // Refuses arguments, reads, puts the line, and writes it.
-fn main() {
-    if console::is_misused(os::arg_count(), b"usage: fold < JOURNAL\n") {
+fn main(rt: HostRuntime) {
+    if console::is_misused(rt, console::argument_count(rt), b"usage: fold < JOURNAL\n") {
         return;
     }
     let mut journal = [0u8; fold_output::READ];
-    let Input::Read(n) = console::read_input(&mut journal) else {
+    let Input::Read(n) = console::read_input(rt, &mut journal) else {
         return;
     };
     let mut out = [0u8; console::SIZE];
-    fold_output::put_fold(&mut out, &journal, n);
-    console::flush(&mut out);
+    fold_output::put_fold(rt, &mut out, &journal, n);
+    console::flush(rt, &mut out);
 }

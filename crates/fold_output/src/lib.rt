@@ -14,55 +14,55 @@ pub const READ: usize = 65537;
 const PENDING: usize = 15360;
 
 // The line of a refusal: its number, and the offset at which the journal is refused.
-fn refusal_line(out: &mut Output, number: u64, offset: u64)
+fn refusal_line(rt: HostRuntime, out: &mut Output, number: u64, offset: u64)
     ensures { waits out.new ≡ all_behind (waits out.old) (refusal_line number offset) }
 {
-    console::count(out, b"refused", number);
-    console::count(out, b" at", offset);
-    console::text(out, b"\n");
+    console::count(rt, out, b"refused", number);
+    console::count(rt, out, b" at", offset);
+    console::text(rt, out, b"\n");
 }
 
 // The line of a fold that returned 0, with its five totals.
-fn totals_line(out: &mut Output, totals: &[u8; 40])
+fn totals_line(rt: HostRuntime, out: &mut Output, totals: &[u8; 40])
     ensures { waits out.new ≡ all_behind (waits out.old) (totals_line totals.now) }
 {
-    console::count(out, b"pending", wire::number(totals, 0, 8));
-    console::count(out, b" skipped", wire::number(totals, 8, 8));
-    console::count(out, b" migrated", wire::number(totals, 16, 8));
-    console::count(out, b" degraded", wire::number(totals, 24, 8));
-    console::count(out, b" end", wire::number(totals, 32, 8));
-    console::text(out, b"\n");
+    console::count(rt, out, b"pending", wire::number(totals, 0, 8));
+    console::count(rt, out, b" skipped", wire::number(totals, 8, 8));
+    console::count(rt, out, b" migrated", wire::number(totals, 16, 8));
+    console::count(rt, out, b" degraded", wire::number(totals, 24, 8));
+    console::count(rt, out, b" end", wire::number(totals, 32, 8));
+    console::text(rt, out, b"\n");
 }
 
 // Document 01's line of a fold, from what the exported function returned and wrote.
-pub fn fold_line(out: &mut Output, code: u64, totals: &[u8; 40])
+pub fn fold_line(rt: HostRuntime, out: &mut Output, code: u64, totals: &[u8; 40])
     ensures { waits out.new ≡ all_behind (waits out.old) (fold_line code totals.now) }
 {
     if code == 0 {
-        totals_line(out, totals);
+        totals_line(rt, out, totals);
     } else {
-        refusal_line(out, code % 256, code / 256);
+        refusal_line(rt, out, code % 256, code / 256);
     }
 }
 
 // Folds a journal and puts its line.
-fn put_journal(out: &mut Output, journal: &[u8])
+fn put_journal(rt: HostRuntime, out: &mut Output, journal: &[u8])
     ensures { waits out.new ≡ all_behind (waits out.old) (journal_line journal.now) }
 {
     let mut pending = [0u8; PENDING];
     let mut totals = [0u8; 40];
     let code = journal_exports::gap_quarantine_fold(journal, &mut pending, &mut totals);
-    fold_line(out, code, &totals);
+    fold_line(rt, out, code, &totals);
 }
 
 // Puts what is printed where n bytes of a file were read to the front of `read`.
-pub fn put_fold(out: &mut Output, read: &[u8; READ], n: usize)
+pub fn put_fold(rt: HostRuntime, out: &mut Output, read: &[u8; READ], n: usize)
     ensures { waits out.new ≡ all_behind (waits out.old) (fold_output n read.now) }
 {
     if READ < n {
-        put_journal(out, read);
+        put_journal(rt, out, read);
         return;
     }
     let all = &read[..];
-    put_journal(out, &all[..n]);
+    put_journal(rt, out, &all[..n]);
 }

@@ -32,9 +32,9 @@ pub(crate) enum Next {
 }
 
 // The rest of a head that says how long the output is.
-fn lent_head(kind: Kind, len: usize) -> Next {
+fn lent_head(rt: HostRuntime, kind: Kind, len: usize) -> Next {
     let mut bytes = [0u8; 2];
-    let Input::Read(got) = console::read_input(&mut bytes) else {
+    let Input::Read(got) = console::read_input(rt, &mut bytes) else {
         return Next::Failed;
     };
     if got < 2 {
@@ -68,9 +68,9 @@ fn park_head(len: usize) -> Next {
 }
 
 // The head of the next item.
-fn next_head() -> Next {
+fn next_head(rt: HostRuntime) -> Next {
     let mut bytes = [0u8; 5];
-    let Input::Read(got) = console::read_input(&mut bytes) else {
+    let Input::Read(got) = console::read_input(rt, &mut bytes) else {
         return Next::Failed;
     };
     if got == 0 {
@@ -81,16 +81,16 @@ fn next_head() -> Next {
     }
     let len = wire::number(&bytes, 1, 4) as usize;
     match bytes[0] {
-        0 => lent_head(Kind::Fold, len),
+        0 => lent_head(rt, Kind::Fold, len),
         1 => park_head(len),
-        2 => lent_head(Kind::Rewrite, len),
+        2 => lent_head(rt, Kind::Rewrite, len),
         _ => Next::Bad,
     }
 }
 
 // The next item, its bytes at the front of a slice, where `left` bytes of input may still come.
-pub(crate) fn next_item(left: usize, bytes: &mut [u8]) -> Next {
-    let next = next_head();
+pub(crate) fn next_item(rt: HostRuntime, left: usize, bytes: &mut [u8]) -> Next {
+    let next = next_head(rt);
     let Next::Item(head) = next else {
         return next;
     };
@@ -98,7 +98,7 @@ pub(crate) fn next_item(left: usize, bytes: &mut [u8]) -> Next {
     if left < head.size || bytes.len() < len {
         return Next::Bad;
     }
-    let Input::Read(got) = console::read_input(&mut bytes[0..len]) else {
+    let Input::Read(got) = console::read_input(rt, &mut bytes[0..len]) else {
         return Next::Failed;
     };
     if got < len {

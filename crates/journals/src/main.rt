@@ -13,34 +13,34 @@ mod rewrite; // rewrite.rt: one record, read and written again
 const INPUT: usize = 1048576;
 
 // A frame: hash, sender and five numbers.
-fn print_frame(out: &mut Output, frame: &[u8; 92]) {
+fn print_frame(rt: HostRuntime, out: &mut Output, frame: &[u8; 92]) {
     let bytes = &frame[..];
-    console::hex(out, &bytes[0..32]);
-    console::text(out, b" ");
-    console::hex(out, &bytes[32..52]);
-    console::next(out, wire::number(frame, 52, 8));
-    console::next(out, wire::number(frame, 60, 8));
-    console::next(out, wire::number(frame, 68, 8));
-    console::next(out, wire::number(frame, 76, 8));
-    console::next(out, wire::number(frame, 84, 8));
-    console::text(out, b"\n");
+    console::hex(rt, out, &bytes[0..32]);
+    console::text(rt, out, b" ");
+    console::hex(rt, out, &bytes[32..52]);
+    console::next(rt, out, wire::number(frame, 52, 8));
+    console::next(rt, out, wire::number(frame, 60, 8));
+    console::next(rt, out, wire::number(frame, 68, 8));
+    console::next(rt, out, wire::number(frame, 76, 8));
+    console::next(rt, out, wire::number(frame, 84, 8));
+    console::text(rt, out, b"\n");
 }
 
 // The frame of a record, or its refusal.
-fn print_restored(out: &mut Output, record: &[u8]) {
+fn print_restored(rt: HostRuntime, out: &mut Output, record: &[u8]) {
     let mut frame = [0u8; 92];
     let code = journal_exports::gap_quarantine_restore(record, &mut frame);
-    console::text(out, b"restore ");
+    console::text(rt, out, b"restore ");
     if code == 0 {
-        print_frame(out, &frame);
+        print_frame(rt, out, &frame);
         return;
     }
-    console::count(out, b"refused", code);
-    console::text(out, b"\n");
+    console::count(rt, out, b"refused", code);
+    console::text(rt, out, b"\n");
 }
 
 // So many pending records, each with its frame.
-fn print_pending(out: &mut Output, records: &[u8], count: u64) {
+fn print_pending(rt: HostRuntime, out: &mut Output, records: &[u8], count: u64) {
     let mut at = 0;
     let mut i = 0;
     while i < count {
@@ -49,50 +49,50 @@ fn print_pending(out: &mut Output, records: &[u8], count: u64) {
             return;
         }
         let end = at + 240;
-        console::hex(out, &records[at..end]);
-        console::text(out, b"\n");
-        print_restored(out, &records[at..end]);
+        console::hex(rt, out, &records[at..end]);
+        console::text(rt, out, b"\n");
+        print_restored(rt, out, &records[at..end]);
         at = end;
         i += 1;
     }
 }
 
 // Folds a journal.
-fn run_journal(out: &mut Output, journal: &[u8], records: &mut [u8]) {
+fn run_journal(rt: HostRuntime, out: &mut Output, journal: &[u8], records: &mut [u8]) {
     let mut totals = [0u8; 40];
     let code = journal_exports::gap_quarantine_fold(journal, records, &mut totals);
-    fold_output::fold_line(out, code, &totals);
+    fold_output::fold_line(rt, out, code, &totals);
     if code == 0 {
-        print_pending(out, records, wire::number(&totals, 0, 8));
+        print_pending(rt, out, records, wire::number(&totals, 0, 8));
     }
 }
 
 // The length of the record that was written and its bytes, or the refusal.
-fn print_answer(out: &mut Output, answer: WriteAnswer, record: &[u8]) {
+fn print_answer(rt: HostRuntime, out: &mut Output, answer: WriteAnswer, record: &[u8]) {
     match answer {
         WriteAnswer::Written(n) => {
-            console::count(out, b"written", n as u64);
-            console::text(out, b" ");
+            console::count(rt, out, b"written", n as u64);
+            console::text(rt, out, b" ");
             // No record is longer than what was lent.
             if n <= record.len() {
-                console::hex(out, &record[0..n]);
+                console::hex(rt, out, &record[0..n]);
             }
         }
-        WriteAnswer::Refused(x) => console::count(out, b"refused", refusal::number(x)),
+        WriteAnswer::Refused(x) => console::count(rt, out, b"refused", refusal::number(x)),
     }
 }
 
 // Writes a record again.
-fn run_record(out: &mut Output, bytes: &[u8], record: &mut [u8]) {
+fn run_record(rt: HostRuntime, out: &mut Output, bytes: &[u8], record: &mut [u8]) {
     match rewrite::rewrite(bytes, record) {
-        Rewritten::Answer(answer) => print_answer(out, answer, record),
-        Rewritten::NoRecord => console::text(out, b"no record"),
+        Rewritten::Answer(answer) => print_answer(rt, out, answer, record),
+        Rewritten::NoRecord => console::text(rt, out, b"no record"),
     }
-    console::text(out, b"\n");
+    console::text(rt, out, b"\n");
 }
 
 // Folds, restores or writes again the bytes of an item.
-fn run(out: &mut Output, head: Head, bytes: &[u8]) {
+fn run(rt: HostRuntime, out: &mut Output, head: Head, bytes: &[u8]) {
     let mut lent = [0u8; 15360];
     let room = head.room;
     // No head that was read has a larger room.
@@ -101,28 +101,28 @@ fn run(out: &mut Output, head: Head, bytes: &[u8]) {
     }
     let kind = head.kind;
     match kind {
-        Kind::Fold => run_journal(out, bytes, &mut lent[0..room]),
-        Kind::Restore => print_restored(out, bytes),
-        Kind::Rewrite => run_record(out, bytes, &mut lent[0..room]),
+        Kind::Fold => run_journal(rt, out, bytes, &mut lent[0..room]),
+        Kind::Restore => print_restored(rt, out, bytes),
+        Kind::Rewrite => run_record(rt, out, bytes, &mut lent[0..room]),
     }
 }
 
 // What is printed where no item follows.
-fn end(out: &mut Output, next: Next) {
+fn end(rt: HostRuntime, out: &mut Output, next: Next) {
     if let Next::Bad = next {
-        console::text(out, b"bad input\n");
+        console::text(rt, out, b"bad input\n");
     }
 }
 
 // The items of standard input, one after another, each after a line with its place.
-fn run_items(out: &mut Output) {
+fn run_items(rt: HostRuntime, out: &mut Output) {
     let mut bytes = [0u8; item::LONGEST];
     let mut left = INPUT;
     let mut place: usize = 0;
     while place <= INPUT {
-        let next = item::next_item(left, &mut bytes);
+        let next = item::next_item(rt, left, &mut bytes);
         let Next::Item(head) = next else {
-            end(out, next);
+            end(rt, out, next);
             return;
         };
         let len = head.len;
@@ -131,20 +131,24 @@ fn run_items(out: &mut Output) {
         if item::LONGEST < len || left < size {
             return;
         }
-        console::count(out, b"==", place as u64);
-        console::text(out, b"\n");
-        run(out, head, &bytes[0..len]);
+        console::count(rt, out, b"==", place as u64);
+        console::text(rt, out, b"\n");
+        run(rt, out, head, &bytes[0..len]);
         left -= size;
         place += 1;
     }
 }
 
 // Refuses arguments, runs on an empty buffer, and writes what waits at the end.
-fn main() {
-    if console::is_misused(os::arg_count(), b"usage: journals < ITEMS\n") {
+fn main(rt: HostRuntime) {
+    if console::is_misused(
+        rt,
+        console::argument_count(rt),
+        b"usage: journals < ITEMS\n",
+    ) {
         return;
     }
     let mut out = [0u8; console::SIZE];
-    run_items(&mut out);
-    console::flush(&mut out);
+    run_items(rt, &mut out);
+    console::flush(rt, &mut out);
 }

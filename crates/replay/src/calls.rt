@@ -9,7 +9,14 @@ use trace_calls::{Made, RowForm, make_call, make_poll};
 use trace_parts::{list_end, put_numbers};
 
 // Prints the mark and the reply of a call that was made, if it is a call.
-fn shown(out: &mut Output, mark: &[u8], made: Made, numbers: &[u64], hashes: &[u8]) -> Ran
+fn shown(
+    rt: HostRuntime,
+    out: &mut Output,
+    mark: &[u8],
+    made: Made,
+    numbers: &[u64],
+    hashes: &[u8],
+) -> Ran
     ensures { result.size ≡ made.size }
 {
     let size = made.size;
@@ -17,8 +24,8 @@ fn shown(out: &mut Output, mark: &[u8], made: Made, numbers: &[u64], hashes: &[u
     let whose = made.whose;
     let store = made.store;
     if size != 0 {
-        print::text(out, mark);
-        print::reply(out, reply, whose, numbers, hashes);
+        print::text(rt, out, mark);
+        print::reply(rt, out, reply, whose, numbers, hashes);
     }
     Ran {
         size: size,
@@ -27,23 +34,29 @@ fn shown(out: &mut Output, mark: &[u8], made: Made, numbers: &[u64], hashes: &[u
 }
 
 // A call of a trace, by the letter of its mark.
-pub(crate) fn trace_call(out: &mut Output, q: Quarantine, letter: u8, s: &[u8]) -> Ran
+pub(crate) fn trace_call(
+    rt: HostRuntime,
+    out: &mut Output,
+    q: Quarantine,
+    letter: u8,
+    s: &[u8],
+) -> Ran
     ensures { result.size ≤ length s.now }
 {
     let mut numbers = [0u64; 1216];
     let mut hashes = [0u8; 4096];
     let made = make_call(q, s, &mut numbers, &mut hashes);
     let mark = [b' ', b'C', letter, b' '];
-    shown(out, &mark, made, &numbers, &hashes)
+    shown(rt, out, &mark, made, &numbers, &hashes)
 }
 
 // CM: a poll with short rows.
-pub(crate) fn short_poll(out: &mut Output, q: Quarantine, s: &[u8]) -> Ran
+pub(crate) fn short_poll(rt: HostRuntime, out: &mut Output, q: Quarantine, s: &[u8]) -> Ran
     ensures { result.size ≤ length s.now }
 {
     let mut rows = [0u64; 1216];
     let made = make_poll(q, RowForm::Short, s, &mut rows);
-    shown(out, b" CM ", made, &rows, b"")
+    shown(rt, out, b" CM ", made, &rows, b"")
 }
 
 // Where the list at a place ends; 0 if the bytes end first, or if the place is 0.
@@ -59,7 +72,7 @@ fn end_behind(s: &[u8], at: usize, width: usize) -> usize
 
 // CW: a sweep of senders. The rows have room for all 64 frames of each of 64 senders. Over 64 heads or counts their number alone
 // decides the answer, so no more than 65 are kept; and a script has no room for 8,192 nonces.
-pub(crate) fn sweep(out: &mut Output, q: Quarantine, s: &[u8]) -> Ran
+pub(crate) fn sweep(rt: HostRuntime, out: &mut Output, q: Quarantine, s: &[u8]) -> Ran
     ensures { result.size ≤ length s.now }
 {
     let heads_at = end_behind(s, 2, 1);
@@ -85,8 +98,8 @@ pub(crate) fn sweep(out: &mut Output, q: Quarantine, s: &[u8]) -> Ran
     );
     let answer = r.answer;
     let store = r.store;
-    print::text(out, b" CW ");
-    print::answer(out, answer, &rows, b"");
+    print::text(rt, out, b" CW ");
+    print::answer(rt, out, answer, &rows, b"");
     Ran {
         size: end,
         store: store,

@@ -29,7 +29,7 @@ fn no_call(q: Quarantine) -> Ran
 }
 
 // Runs the call that the bytes begin with. A mark that is none of this program's own is a trace's, or none.
-fn run_call(out: &mut Output, q: Quarantine, s: &[u8]) -> Ran
+fn run_call(rt: HostRuntime, out: &mut Output, q: Quarantine, s: &[u8]) -> Ran
     ensures { result.size ≤ length s.now }
 {
     if s.len() < 2 {
@@ -40,30 +40,30 @@ fn run_call(out: &mut Output, q: Quarantine, s: &[u8]) -> Ran
     }
     let letter = s[1];
     match letter {
-        b'M' => calls::short_poll(out, q, s),
-        b'W' => calls::sweep(out, q, s),
+        b'M' => calls::short_poll(rt, out, q, s),
+        b'W' => calls::sweep(rt, out, q, s),
         b'S' | b'B' | b'T' | b'L' | b'N' | b'C' | b'K' | b'H' | b'D' => Ran {
-            size: reads::read(out, q, letter, s),
+            size: reads::read(rt, out, q, letter, s),
             store: q,
         },
-        _ => calls::trace_call(out, q, letter, s),
+        _ => calls::trace_call(rt, out, q, letter, s),
     }
 }
 
 // A script from an empty store, a line a call.
-fn run_script(out: &mut Output, s: &[u8]) {
+fn run_script(rt: HostRuntime, out: &mut Output, s: &[u8]) {
     let mut q = Quarantine::new();
     let mut at = 0;
     let mut place: u64 = 0;
     while at < s.len() {
-        print::number(out, place);
-        let ran = run_call(out, q, &s[at..]);
+        print::number(rt, out, place);
+        let ran = run_call(rt, out, q, &s[at..]);
         let size = ran.size;
         if size == 0 {
-            print::text(out, b" bad\n");
+            print::text(rt, out, b" bad\n");
             return;
         }
-        print::text(out, b"\n");
+        print::text(rt, out, b"\n");
         let store = ran.store;
         q = store;
         at += size;
@@ -81,9 +81,9 @@ enum Next {
 }
 
 // Reads a script, where so many bytes of input may still come.
-fn next_script(left: usize, script: &mut [u8]) -> Next {
+fn next_script(rt: HostRuntime, left: usize, script: &mut [u8]) -> Next {
     let mut head = [0u8; 4];
-    let Input::Read(got) = console::read_input(&mut head) else {
+    let Input::Read(got) = console::read_input(rt, &mut head) else {
         return Next::Failed;
     };
     if got == 0 {
@@ -96,7 +96,7 @@ fn next_script(left: usize, script: &mut [u8]) -> Next {
     if script.len() < len || left - 4 < len {
         return Next::Bad;
     }
-    let Input::Read(got) = console::read_input(&mut script[0..len]) else {
+    let Input::Read(got) = console::read_input(rt, &mut script[0..len]) else {
         return Next::Failed;
     };
     if got < len {
@@ -106,21 +106,21 @@ fn next_script(left: usize, script: &mut [u8]) -> Next {
 }
 
 // What is printed where no script follows.
-fn end(out: &mut Output, next: Next) {
+fn end(rt: HostRuntime, out: &mut Output, next: Next) {
     if let Next::Bad = next {
-        print::text(out, b"bad input\n");
+        print::text(rt, out, b"bad input\n");
     }
 }
 
 // The scripts of standard input, one after another.
-fn run_scripts(out: &mut Output) {
+fn run_scripts(rt: HostRuntime, out: &mut Output) {
     let mut script = [0u8; 65536];
     let mut left = INPUT;
     let mut place: usize = 0;
     while place <= INPUT {
-        let next = next_script(left, &mut script);
+        let next = next_script(rt, left, &mut script);
         let Next::Script(len) = next else {
-            end(out, next);
+            end(rt, out, next);
             return;
         };
         if 65536 < len {
@@ -130,20 +130,24 @@ fn run_scripts(out: &mut Output) {
         if left < used {
             return;
         }
-        print::count(out, b"==", place);
-        print::text(out, b"\n");
-        run_script(out, &script[0..len]);
+        print::count(rt, out, b"==", place);
+        print::text(rt, out, b"\n");
+        run_script(rt, out, &script[0..len]);
         left -= used;
         place += 1;
     }
 }
 
 // Refuses arguments, runs on an empty buffer, and writes what waits at the end.
-fn main() {
-    if console::is_misused(os::arg_count(), b"usage: replay < SCRIPTS\n") {
+fn main(rt: HostRuntime) {
+    if console::is_misused(
+        rt,
+        console::argument_count(rt),
+        b"usage: replay < SCRIPTS\n",
+    ) {
         return;
     }
     let mut out = [0u8; console::SIZE];
-    run_scripts(&mut out);
-    console::flush(&mut out);
+    run_scripts(rt, &mut out);
+    console::flush(rt, &mut out);
 }

@@ -58,24 +58,24 @@ pub(crate) fn tentative(first_block: u64, second_block: u64) -> Quarantine {
 }
 
 // Refuses arguments, and prints every line.
-fn main() {
-    if console::is_misused(os::arg_count(), b"usage: short_slices\n") {
+fn main(rt: HostRuntime) {
+    if console::is_misused(rt, console::argument_count(rt), b"usage: short_slices\n") {
         return;
     }
     let mut out = [0u8; console::SIZE];
-    changing::polls(&mut out);
-    sweeps::sweeps(&mut out);
-    sweeps::lists(&mut out);
-    changing::evictions(&mut out);
-    changing::reorganisations(&mut out);
-    changing::finalities(&mut out);
-    reads::blocks(&mut out);
-    reads::senders(&mut out);
-    reads::gaps(&mut out);
-    changing::longer(&mut out);
-    sweeps::longer(&mut out);
-    reads::longer(&mut out);
-    print::is_empty(&mut out, b"an empty store", Quarantine::new());
-    print::is_empty(&mut out, b"a store of two", tracked());
-    console::flush(&mut out);
+    changing::polls(rt, &mut out);
+    sweeps::sweeps(rt, &mut out);
+    sweeps::lists(rt, &mut out);
+    changing::evictions(rt, &mut out);
+    changing::reorganisations(rt, &mut out);
+    changing::finalities(rt, &mut out);
+    reads::blocks(rt, &mut out);
+    reads::senders(rt, &mut out);
+    reads::gaps(rt, &mut out);
+    changing::longer(rt, &mut out);
+    sweeps::longer(rt, &mut out);
+    reads::longer(rt, &mut out);
+    print::is_empty(rt, &mut out, b"an empty store", Quarantine::new());
+    print::is_empty(rt, &mut out, b"a store of two", tracked());
+    console::flush(rt, &mut out);
 }

@@ -5,15 +5,15 @@
 use console::Input;
 
 // Refuses arguments, reads, puts the lines, and writes them.
-fn main() {
-    if console::is_misused(os::arg_count(), b"usage: trace < TRACE\n") {
+fn main(rt: HostRuntime) {
+    if console::is_misused(rt, console::argument_count(rt), b"usage: trace < TRACE\n") {
         return;
     }
     let mut trace = [0u8; trace_output::READ];
-    let Input::Read(n) = console::read_input(&mut trace) else {
+    let Input::Read(n) = console::read_input(rt, &mut trace) else {
         return;
     };
     let mut out = [0u8; console::SIZE];
-    trace_output::put_trace(&mut out, &trace, n);
-    console::flush(&mut out);
+    trace_output::put_trace(rt, &mut out, &trace, n);
+    console::flush(rt, &mut out);
 }

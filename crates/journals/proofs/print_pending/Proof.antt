@@ -5,10 +5,10 @@ use Rattle.journals.proofs.print_pending.Statement.{statement}
 use Rattle.journals.proofs.print_pending.Tie as tie
 
 abbrev invariant-loop : tie.invariant-loop
-invariant-loop out₀ records count at₀ i₀ t7 out at i = (at ≤ length records) × (i ≤ count)
+invariant-loop rt out₀ records count at₀ i₀ out at i = (at ≤ length records) × (i ≤ count)
 
 abbrev decreases-loop : tie.decreases-loop
-decreases-loop out₀ records count at₀ i₀ t7 out at i = count - i
+decreases-loop rt out₀ records count at₀ i₀ out at i = count - i
 
 loop-holds : tie.Need-loop-init invariant-loop decreases-loop
 loop-holds c = search rules

@@ -6,10 +6,10 @@ use Rattle.journals.proofs.run_items.Statement.{statement}
 use Rattle.journals.proofs.run_items.Tie as tie
 
 abbrev invariant-loop : tie.invariant-loop
-invariant-loop out₀ bytes₀ left₀ place₀ t9 t10 out bytes left place = length bytes ≡ 65537
+invariant-loop rt out₀ bytes₀ left₀ place₀ out bytes left place = length bytes ≡ 65537
 
 abbrev decreases-loop : tie.decreases-loop
-decreases-loop out₀ bytes₀ left₀ place₀ t9 t10 out bytes left place = 1048577 - place
+decreases-loop rt out₀ bytes₀ left₀ place₀ out bytes left place = 1048577 - place
 
 loop-holds : tie.Need-loop-init invariant-loop decreases-loop
 loop-holds c = search rules

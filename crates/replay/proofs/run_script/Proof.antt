@@ -5,10 +5,10 @@ use Rattle.replay.proofs.run_script.Statement.{statement}
 use Rattle.replay.proofs.run_script.Tie as tie
 
 abbrev invariant-loop : tie.invariant-loop
-invariant-loop out₀ s q₀ at₀ place₀ t9 t10 out q at place = (at ≤ length s) × (place ≤ at)
+invariant-loop rt out₀ s q₀ at₀ place₀ out q at place = (at ≤ length s) × (place ≤ at)
 
 abbrev decreases-loop : tie.decreases-loop
-decreases-loop out₀ s q₀ at₀ place₀ t9 t10 out q at place = length s - at
+decreases-loop rt out₀ s q₀ at₀ place₀ out q at place = length s - at
 
 new-requires : tie.Need-new-requires invariant-loop decreases-loop
 new-requires c κs = search rules

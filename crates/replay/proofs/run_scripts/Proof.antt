@@ -6,10 +6,10 @@ use Rattle.replay.proofs.run_scripts.Statement.{statement}
 use Rattle.replay.proofs.run_scripts.Tie as tie
 
 abbrev invariant-loop : tie.invariant-loop
-invariant-loop out₀ script₀ left₀ place₀ t8 t9 out script left place = length script ≡ 65536
+invariant-loop rt out₀ script₀ left₀ place₀ out script left place = length script ≡ 65536
 
 abbrev decreases-loop : tie.decreases-loop
-decreases-loop out₀ script₀ left₀ place₀ t8 t9 out script left place = 1048577 - place
+decreases-loop rt out₀ script₀ left₀ place₀ out script left place = 1048577 - place
 
 loop-holds : tie.Need-loop-init invariant-loop decreases-loop
 loop-holds c = search rules

@@ -10,10 +10,10 @@ use Rattle.trace_output.proofs.placed_lines.Statement.{statement}
 use Rattle.trace_output.proofs.placed_lines.Tie as tie
 
 abbrev invariant-loop : tie.invariant-loop
-invariant-loop out₀ lines i₀ out i = (i ≤ length lines) × (all_behind (waits out) (placed_lines i (drop i lines)) ≡ all_behind (waits out₀) (placed_lines 0 lines))
+invariant-loop rt out₀ lines i₀ out i = (i ≤ length lines) × (all_behind (waits out) (placed_lines i (drop i lines)) ≡ all_behind (waits out₀) (placed_lines 0 lines))
 
 abbrev decreases-loop : tie.decreases-loop
-decreases-loop out₀ lines i₀ out i = length lines - i
+decreases-loop rt out₀ lines i₀ out i = length lines - i
 
 loop-holds : tie.Need-loop-init invariant-loop decreases-loop
 loop-holds c = (omega arith, refl)

@@ -5,10 +5,10 @@ use Rattle.replay.proofs.print.numbers.Statement.{statement}
 use Rattle.replay.proofs.print.numbers.Tie as tie
 
 abbrev invariant-loop : tie.invariant-loop
-invariant-loop out₀ list count i₀ out i = i ≤ length list
+invariant-loop rt out₀ list count i₀ out i = i ≤ length list
 
 abbrev decreases-loop : tie.decreases-loop
-decreases-loop out₀ list count i₀ out i = length list - i
+decreases-loop rt out₀ list count i₀ out i = length list - i
 
 loop-holds : tie.Need-loop-init invariant-loop decreases-loop
 loop-holds c = search rules

@@ -4,10 +4,10 @@ use Rattle.replay.proofs.print.parts.Statement.{statement}
 use Rattle.replay.proofs.print.parts.Tie as tie
 
 abbrev invariant-loop : tie.invariant-loop
-invariant-loop out₀ bytes from width count at₀ i₀ out at i = Unit {0}
+invariant-loop rt out₀ bytes from width count at₀ i₀ out at i = Unit {0}
 
 abbrev decreases-loop : tie.decreases-loop
-decreases-loop out₀ bytes from width count at₀ i₀ out at i = count - i
+decreases-loop rt out₀ bytes from width count at₀ i₀ out at i = count - i
 
 loop-holds : tie.Need-loop-init invariant-loop decreases-loop
 loop-holds c = search rules

@@ -5,10 +5,10 @@ use Rattle.replay.proofs.print.rows.Statement.{statement}
 use Rattle.replay.proofs.print.rows.Tie as tie
 
 abbrev invariant-loop : tie.invariant-loop
-invariant-loop out₀ list width bytes hashes count at₀ from₀ i₀ t11 out at from i = at ≤ length list
+invariant-loop rt out₀ list width bytes hashes count at₀ from₀ i₀ out at from i = at ≤ length list
 
 abbrev decreases-loop : tie.decreases-loop
-decreases-loop out₀ list width bytes hashes count at₀ from₀ i₀ t11 out at from i = count - i
+decreases-loop rt out₀ list width bytes hashes count at₀ from₀ i₀ out at from i = count - i
 
 loop-holds : tie.Need-loop-init invariant-loop decreases-loop
 loop-holds c = search rules
