@@ -25,8 +25,8 @@ loop-i-preserved c =
       search rules,
       l.invariant.1,
       elim c.if-a-i.branch [
-        then-a-i w ↦ rw w.same-is (differs a b l.i l.same h k l.invariant.2 w.if-a-i.true)
-      | else-a-i w ↦ rw w.same-is (agrees a b l.i l.same h k l.invariant.2 w.if-a-i.false)
+        | then-a-i w ↦ rw w.same-is (differs a b l.i l.same h k l.invariant.2 w.if-a-i.true)
+        | else-a-i w ↦ rw w.same-is (agrees a b l.i l.same h k l.invariant.2 w.if-a-i.false)
       ],
     )
 
