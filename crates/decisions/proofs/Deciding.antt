@@ -4,7 +4,6 @@ use mathlib.Core.Path.{◌≡◌, refl, sym, ap, ◌∙◌}
 use mathlib.Core.Bool.{Bool, true, false, ◌&&◌}
 use mathlib.Core.List.{List, [], ◌∷◌}
 use mathlib.Core.Option.{Option, none, some}
-use types.Run.{OneOf, miss}
 use denote.Enum.Declared.{tag_of}
 use Rattle.lists.specs.Bytes.{Bytes, eq_bytes, eq_numbers}
 use Rattle.store_rules.specs.Frames.{Standing, Entry, Guard, Row, Visit, is_tracked}
@@ -36,21 +35,21 @@ tentative-is e c s = rw s
 -- ---- the tellings
 
 -- only a held frame's standing changes
-pub stays-as : (t : Telling) → OneOf (0 ∷ 2 ∷ 3 ∷ 4 ∷ []) (tag_of the_type t) → (head : ℕ) (s : Standing) → staying_as t head s ≡ s
+pub stays-as : (t : Telling) → (t ≡ Hold → ⊥) → (head : ℕ) (s : Standing) → staying_as t head s ≡ s
 stays-as Consumed k head s = refl
-stays-as Hold k head s = absurd (miss (0 ∷ 2 ∷ 3 ∷ 4 ∷ []) 1 tt k)
+stays-as Hold k head s = absurd (k refl)
 stays-as Waits k head s = refl
 stays-as HeldBack k head s = refl
 stays-as Rescued k head s = refl
 
 -- only a rescued frame leaves
-pub keeps : (t : Telling) → OneOf (0 ∷ 1 ∷ 2 ∷ 3 ∷ []) (tag_of the_type t) → (head : ℕ) (known : List ℕ) (e : Entry) → (visit_told t head known e).drops ≡ false
+pub keeps : (t : Telling) → (t ≡ Rescued → ⊥) → (head : ℕ) (known : List ℕ) (e : Entry) → (visit_told t head known e).drops ≡ false
 unfolding stay
 keeps Consumed k head known e = refl
 keeps Hold k head known e = refl
 keeps Waits k head known e = refl
 keeps HeldBack k head known e = refl
-keeps Rescued k head known e = absurd (miss (0 ∷ 1 ∷ 2 ∷ 3 ∷ []) 4 tt k)
+keeps Rescued k head known e = absurd (k refl)
 
 pub silent-keeps : (r : Course) → r ≡ Silent → (head : ℕ) (known : List ℕ) (e : Entry) → (visit_of r head known e).drops ≡ false
 unfolding stay

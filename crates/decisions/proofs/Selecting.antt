@@ -9,7 +9,6 @@ use mathlib.Core.Option.{Option, some}
 use lib.Dec.{leb, ltb}
 use lib.ListN.{length, set, length-append}
 use borrow.Author.Tests.{le-ltb, eq-eqb, ne_eqb}
-use types.Run.{OneOf, miss}
 use denote.Enum.Declared.{tag_of}
 use Rattle.lists.specs.Bytes.{Bytes, eq_bytes}
 use Rattle.lists.specs.Lists.{keep, written_at}
@@ -145,11 +144,11 @@ bytes-width Finalized e h t = simp length-append (omega arith)
 one-short : (count numbers bytes : ℕ) → ltb numbers count ≡ (ltb numbers (1 * count) || ltb bytes (0 * count))
 one-short count numbers bytes = rw (one-mul, zero-mul, le-ltb bytes 0 (omega arith)) (sym (or-false (ltb numbers count)))
 
-pub short-of : (by : Selecting) → OneOf (0 ∷ 1 ∷ []) (tag_of the_type by) → (count numbers bytes : ℕ) →
+pub short-of : (by : Selecting) → (by ≡ Finalized → ⊥) → (count numbers bytes : ℕ) →
     ltb numbers count ≡ (ltb numbers (number_width by * count) || ltb bytes (byte_width by * count))
 short-of OfSender k count numbers bytes = one-short count numbers bytes
 short-of Reorganised k count numbers bytes = one-short count numbers bytes
-short-of Finalized k count numbers bytes = absurd (miss (0 ∷ 1 ∷ []) 2 tt k)
+short-of Finalized k count numbers bytes = absurd (k refl)
 
 -- the entry is listed behind n others
 abbrev pub Lists : Selecting → Entry → ℕ → List ℕ → Bytes → List ℕ → Bytes → Type 0
@@ -157,10 +156,10 @@ Lists by e n numbers bytes numbers' bytes' =
     (numbers' ≡ written_at (number_width by * n) (numbers_for by e) numbers) × (bytes' ≡ written_at (byte_width by * n) (bytes_for by e) bytes)
     × (length (bytes_for by e) ≡ byte_width by)
 
-pub room_for : (by : Selecting) → OneOf (0 ∷ 1 ∷ []) (tag_of the_type by) → (n room : ℕ) → number_width by * n + number_width by ≤ room → n < room
+pub room_for : (by : Selecting) → (by ≡ Finalized → ⊥) → (n room : ℕ) → number_width by * n + number_width by ≤ room → n < room
 room_for OfSender k n room h = omega arith
 room_for Reorganised k n room h = omega arith
-room_for Finalized k n room h = absurd (miss (0 ∷ 1 ∷ []) 2 tt k)
+room_for Finalized k n room h = absurd (k refl)
 
 pub final-room : (by : Selecting) (n m numbers bytes : ℕ) → by ≡ Finalized → number_width by * n + number_width by ≤ numbers → byte_width by * m + byte_width by ≤ bytes →
     (3 * n + 3 ≤ numbers) × (64 * m + 64 ≤ bytes)
@@ -172,12 +171,12 @@ never-final e s h =
     let f : is_tentative (entry_of e).standing.state ≡ false = rw s in
     false≢true (sym f ∙ h)
 
-pub ticket-listed : (by : Selecting) → OneOf (0 ∷ 1 ∷ []) (tag_of the_type by) → (e : Entry) (n : ℕ) (numbers : List ℕ) (bytes : Bytes) →
+pub ticket-listed : (by : Selecting) → (by ≡ Finalized → ⊥) → (e : Entry) (n : ℕ) (numbers : List ℕ) (bytes : Bytes) →
     n < length numbers → Lists by e n numbers bytes (set numbers n e.frame.ticket) bytes
 unfolding ticket_numbers
 ticket-listed OfSender k e n numbers bytes h = (rw one-mul (one_at numbers n e.frame.ticket h), rw zero-mul, refl)
 ticket-listed Reorganised k e n numbers bytes h = (rw one-mul (one_at numbers n e.frame.ticket h), rw zero-mul, refl)
-ticket-listed Finalized k e n numbers bytes h = absurd (miss (0 ∷ 1 ∷ []) 2 tt k)
+ticket-listed Finalized k e n numbers bytes h = absurd (k refl)
 
 -- the entry's numbers and hashes, where it is final
 pub dead-listed : (e : coded.Entry) (c : NonceConsumed) → e.state ≡ Tentative c → (n : ℕ) (numbers : List ℕ) (bytes first second shown : Bytes) (block kind : ℕ) →
