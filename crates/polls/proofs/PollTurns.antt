@@ -8,7 +8,6 @@ use mathlib.Core.Option.{Option, none, some}
 use mathlib.Core.List.{List, [], ◌∷◌, map}
 use lib.ListN.{length, take, get_or, set}
 use lib.Seq.{set-get_or}
-use types.Run.{OneOf, miss}
 use denote.Enum.Declared.{tag_of}
 use Rattle.lists.specs.Bytes.{Bytes}
 use Rattle.lists.specs.Lists.{keep, written_at}
@@ -42,17 +41,17 @@ use Rattle.answers.specs.declared.Answer.{Answer}
 -- ---- the visit that a course comes to
 
 module _ (head : ℕ) (known : List ℕ) (e : Entry) where
-  visits-silent : (c : Course) → OneOf (0 ∷ []) (tag_of course.the_type c) → visit_of c head known e ≡ stay e.standing []
+  visits-silent : (c : Course) → ((t : Telling) → c ≡ Tells t → ⊥) → visit_of c head known e ≡ stay e.standing []
   visits-silent Silent k = refl
-  visits-silent (Tells t) k = absurd (miss (0 ∷ []) 1 tt k)
+  visits-silent (Tells t) k = absurd (k t refl)
 
-  visits-stay : (t : Telling) → OneOf (0 ∷ 1 ∷ 2 ∷ 3 ∷ []) (tag_of telling.the_type t) →
+  visits-stay : (t : Telling) → (t ≡ Rescued → ⊥) →
       visit_told t head known e ≡ stay (staying_as t head e.standing) (row_of t head known e.frame ∷ [])
   visits-stay Consumed k = refl
   visits-stay Hold k = refl
   visits-stay Waits k = refl
   visits-stay HeldBack k = refl
-  visits-stay Rescued k = absurd (miss (0 ∷ 1 ∷ 2 ∷ 3 ∷ []) 4 tt k)
+  visits-stay Rescued k = absurd (k refl)
 
   one-row : (t : Telling) → (visit_told t head known e).lists ≡ row_of t head known e.frame ∷ []
   unfolding stay leave
@@ -90,14 +89,14 @@ module _ (form : RowForm) (sender : Bytes) (head : ℕ) (known : List ℕ) (cont
       (visit : (b : Bodies) → Lent has numbers contents b →
       only_of sender (poll_rule head known content) (guard_of (get_or entries i d).frame.hash (live_of (take guards (labels_of labels)) b)) (entry_of (get_or entries i d))
       ≡ visit_of c head known (entry_of (get_or entries i d))) where
-    pub silent-one : OneOf (0 ∷ []) (tag_of course.the_type c) →
+    pub silent-one : ((t : Telling) → c ≡ Tells t → ⊥) →
         Polling len guards entries₀ labels₀ many rows₀ (set entries w (get_or entries i d)) labels rows n (w + 1) (i + 1)
     silent-one k =
         silent _ _ _ _ _ _ len guards entries₀ labels₀ many rows₀ [] entries labels rows [] n w i t d more
         (λ b l. visit b l ∙ visits-silent head known (entry_of (get_or entries i d)) c k)
 
     -- nothing left before it
-    pub silent-still : OneOf (0 ∷ []) (tag_of course.the_type c) → i ≤ w → Polling len guards entries₀ labels₀ many rows₀ entries labels rows n (w + 1) (i + 1)
+    pub silent-still : ((t : Telling) → c ≡ Tells t → ⊥) → i ≤ w → Polling len guards entries₀ labels₀ many rows₀ entries labels rows n (w + 1) (i + 1)
     silent-still k h =
         let here : w ≡ i = omega (arith, t.behind) in
         let still : set entries w (get_or entries i d) ≡ entries = ap (λ (m : ℕ). set entries m (get_or entries i d)) here ∙ set-get_or entries i d in
@@ -121,7 +120,7 @@ module _ (form : RowForm) (sender : Bytes) (head : ℕ) (known : List ℕ) (cont
           )
 
       module _ (rows' : List ℕ) (a : rows' ≡ written_at (row_width form * n) (row_numbers form (row_of tells head known (frame_of (get_or entries i d).frame))) rows) where
-        pub stays-one : OneOf (0 ∷ 1 ∷ 2 ∷ 3 ∷ []) (tag_of telling.the_type tells) → (y : coded.Entry) →
+        pub stays-one : (tells ≡ Rescued → ⊥) → (y : coded.Entry) →
             entry_of y ≡ record { frame = frame_of (get_or entries i d).frame; standing = staying_as tells head (entry_of (get_or entries i d)).standing } →
             Polling len guards entries₀ labels₀ many rows₀ (set entries w y) labels rows' (n + 1) (w + 1) (i + 1)
         unfolding stay

@@ -50,9 +50,9 @@ module _ (bodies : Bodies) (h : Held) (senders : Bytes) (heads counts nonces sli
   bad-lists t = refused-sweep BadSweepLists (rw t)
 
   module _ (good : bad_lists senders heads counts ≡ false) where
-    pub bad_sum : bad_sum counts nonces ≡ true → SweepSteps (held_view bodies) h asked slice (says_refused 18) h slice
+    pub bad_sum_lem : bad_sum counts nonces ≡ true → SweepSteps (held_view bodies) h asked slice (says_refused 18) h slice
     unfolding sweep_refusal sweep_input_refusal or_else when
-    bad_sum t = refused-sweep BadNonceCounts (rw (good, t))
+    bad_sum_lem t = refused-sweep BadNonceCounts (rw (good, t))
 
     module _ (summed : bad_sum counts nonces ≡ false) where
       pub big : big_count counts ≡ true → SweepSteps (held_view bodies) h asked slice (says_refused 3) h slice

@@ -1,0 +1,5 @@
+use borrow.Author.Rules.{rules}
+use Rattle.polls.proofs.polling.poll.Goals as goal
+
+pub returns : goal.returns
+returns c bodies = c.poll_alone.ensures bodies

@@ -1,0 +1,6 @@
+use mathlib.Core.Path.{refl}
+use borrow.Author.Rules.{rules}
+use Rattle.polls.proofs.polling.poll_short_with_content.Goals as goal
+
+pub returns : goal.returns
+returns c = c.poll_inner.ensures _ (λ e. refl)
