@@ -1,0 +1,18 @@
+use borrow.Author.Rules.{rules}
+use Rattle.store_rules.specs.Store.{push, long}
+use Rattle.trace_calls.proofs.Making.{not_made, made-alone}
+use Rattle.trace_calls.proofs.Readers.{push-read, push-not}
+use Rattle.trace_calls.proofs.calls.push.Goals as goal
+
+pub returns-then-bytes-lt94 : goal.returns-then-bytes-lt94
+returns-then-bytes-lt94 c = λ slice hashes. not_made long c.args.q c.args.bytes.now _ slice hashes _ (push-not c.args.bytes.now c.if-bytes-lt94.true) c.no_call.ensures
+
+pub returns : goal.returns
+returns c =
+    let a = c.args in
+    let bs = a.bytes.now in
+    let h = c.if-bytes-lt94.false in
+    let pushed = c.push in
+    λ slice hashes. made-alone long a.q bs _ _ 94 pushed.result _ (push-read bs h) h c.answered.ensures tt tt slice hashes
+    (rw (c.hash_at.ensures, c.address_at.ensures, c.number.ensures, c.number-2.ensures, c.number-3.ensures, c.number-4.ensures, c.number-5.ensures)
+    at pushed.ensures)
