@@ -14,8 +14,7 @@ pub mod writers; // writers.rt: the exported writers
 
 // Folds a journal. Returns 0, and writes the pending records to `out` and pending, skipped, migrated, degraded and end to
 // `totals`; or writes nothing, and returns a refusal's number + 256 × offset.
-#[unsafe(no_mangle)]
-pub extern "C" fn gap_quarantine_fold(journal: &[u8], out: &mut [u8], totals: &mut [u8]) -> u64
+pub fn gap_quarantine_fold(journal: &[u8], out: &mut [u8], totals: &mut [u8]) -> u64
     ensures { record { code = result; out = out.new; totals = totals.new } ≡ exported journal.now out.old totals.old }
 {
     let f = gap_quarantine_journal::fold_journal(journal);
@@ -39,8 +38,7 @@ pub extern "C" fn gap_quarantine_fold(journal: &[u8], out: &mut [u8], totals: &m
 
 // Restores the frame of one QP's bytes. Returns 0 and writes hash, from, expected, claim, chain_id, gas and ticket to `frame`;
 // or writes nothing, and returns a refusal's number.
-#[unsafe(no_mangle)]
-pub extern "C" fn gap_quarantine_restore(bytes: &[u8], frame: &mut [u8]) -> u64
+pub fn gap_quarantine_restore(bytes: &[u8], frame: &mut [u8]) -> u64
     ensures { record { code = result; frame = frame.new } ≡ exported_frame bytes.now frame.old }
 {
     let r = gap_quarantine_journal::to_parked_frame(bytes);

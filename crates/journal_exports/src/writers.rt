@@ -12,8 +12,7 @@ use journal_record::{LegacyParkRecord, ParkRecord, ResolveRecord, TentativeEntry
 use refusal::Refusal;
 
 // Writes a QP.
-#[unsafe(no_mangle)]
-pub extern "C" fn gap_quarantine_write_park(
+pub fn gap_quarantine_write_park(
     version: u32,
     text: &[u8],
     from: &[u8],
@@ -59,8 +58,7 @@ pub extern "C" fn gap_quarantine_write_park(
 }
 
 // Writes a QT.
-#[unsafe(no_mangle)]
-pub extern "C" fn gap_quarantine_write_tentative(
+pub fn gap_quarantine_write_tentative(
     version: u32,
     hash: &[u8],
     kind: u8,
@@ -88,8 +86,7 @@ pub extern "C" fn gap_quarantine_write_tentative(
 }
 
 // Writes a QR.
-#[unsafe(no_mangle)]
-pub extern "C" fn gap_quarantine_write_resolve(
+pub fn gap_quarantine_write_resolve(
     version: u32,
     hash: &[u8],
     resolution: u8,
@@ -117,8 +114,7 @@ pub extern "C" fn gap_quarantine_write_resolve(
 }
 
 // Writes a QL.
-#[unsafe(no_mangle)]
-pub extern "C" fn gap_quarantine_write_legacy(
+pub fn gap_quarantine_write_legacy(
     frame_hash: &[u8],
     top_hash: &[u8],
     has_claimed: u8,
@@ -182,8 +178,7 @@ pub extern "C" fn gap_quarantine_write_legacy(
 }
 
 // Writes a QX.
-#[unsafe(no_mangle)]
-pub extern "C" fn gap_quarantine_write_other(ticket: u64, out: &mut [u8]) -> u64
+pub fn gap_quarantine_write_other(ticket: u64, out: &mut [u8]) -> u64
     ensures { record { code = result; out = out.new } ≡ exported_other ticket out.old }
 {
     output::code_of_answer(journal_writer::write_other(ticket, out))
