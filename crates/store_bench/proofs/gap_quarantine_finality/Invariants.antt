@@ -1,0 +1,16 @@
+use Prim.Native.Nat.{◌-◌}
+use mathlib.Core.Path.{◌≡◌, ◌∙◌}
+use native.Mathlib.Omega.{arith}
+use Rattle.store_rules.specs.Store.{empty}
+use Rattle.store_bench.specs.Loads.{no_bodies, alone}
+use Rattle.store_bench.proofs.Computed.{computed}
+use Rattle.store_bench.proofs.Performing.{leads, seen}
+use Rattle.store_bench.proofs.Rounds.{Ran, fits, next, start, done}
+use borrow.Author.Rules.{rules}
+use Rattle.store_bench.proofs.gap_quarantine_finality.Given as goal
+
+abbrev pub invariant-loop-i : goal.invariant-loop-i
+invariant-loop-i l = Ran 1 l.limit l.seen l.i × (alone l.h ≡ empty)
+
+abbrev pub decreases-loop-i : goal.decreases-loop-i
+decreases-loop-i l = l.limit - l.i

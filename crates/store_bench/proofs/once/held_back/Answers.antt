@@ -1,0 +1,21 @@
+use Prim.Native.Nat.{◌-◌}
+use mathlib.Core.Path.{◌∙◌}
+use native.Mathlib.Omega.{arith}
+use Rattle.store_rules.specs.View.{bodies_of, held_view}
+use Rattle.store_bench.specs.Loads.{guarded, told}
+use Rattle.store_bench.proofs.Performing.{tells}
+use Rattle.store_bench.proofs.Rounds.{Ran, fits, next, start, done}
+use borrow.Author.Rules.{rules}
+use Rattle.store_bench.proofs.once.held_back.Goals as goal
+
+pub loop-i-init : goal.loop-i-init
+loop-i-init c = start
+
+pub overflow_add-seen : goal.overflow_add-seen
+overflow_add-seen c = omega (arith, fits c.requires c.loop-i.invariant c.loop-i-test.true (c.counted-seen.ensures ∙ tells _ c.poll_with_content-r.ensures) (omega arith))
+
+pub loop-i-preserved : goal.loop-i-preserved
+loop-i-preserved c = next c.requires c.loop-i.invariant c.loop-i-test.true (c.counted-seen.ensures ∙ tells _ c.poll_with_content-r.ensures)
+
+pub returns : goal.returns
+returns c = done c.loop-i.invariant c.loop-i-test.false c.capped-limit.ensures
