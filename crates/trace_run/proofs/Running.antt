@@ -68,9 +68,9 @@ module _ (n : Counts) (s : Store) where
   unfolding totals answers sum run_items
   with_none = same-totals _ _ (omega arith) refl (omega arith) (omega arith) (omega arith)
 
-  with_call : (c : Call) (is : List Item) → with n (totals s (single (lent c) ∷ is)) ≡ with (plus_call n s c) (totals (step s (lent c)).0 is)
+  with_call_lem : (c : Call) (is : List Item) → with n (totals s (single (lent c) ∷ is)) ≡ with (plus_call n s c) (totals (step s (lent c)).0 is)
   unfolding totals answers sum run_items step_item
-  with_call c is = same-totals _ _ (omega arith) refl (omega arith) (omega arith) (omega arith)
+  with_call_lem c is = same-totals _ _ (omega arith) refl (omega arith) (omega arith) (omega arith)
 
 -- ---- the loop
 
@@ -154,7 +154,7 @@ module _ (bs : Bytes) (slice₀ : List ℕ) where
                 record {
                   lines_are = rw (w.holds, append_assoc (take count slice) (number ∷ []), e, f) x.lines_are;
                   whole_as = x.whole_as;
-                  totals_are = rw (m, f) (x.totals_are ∙ with_call n s c (map single (map lent u.calls)));
+                  totals_are = rw (m, f) (x.totals_are ∙ with_call_lem n s c (map single (map lent u.calls)));
                   store_is = rw f x.store_is;
                 };
           }

@@ -1,0 +1,5 @@
+use borrow.Author.Rules.{rules}
+use Rattle.trace_run.proofs.number_said.Goals as goal
+
+pub returns-in-Refused : goal.returns-in-Refused
+returns-in-Refused c = rw c.in-Refused.is c.number.ensures
