@@ -1,4 +1,6 @@
 // What is said of a read or a write that failed.
+ghost use Rattle.std.specs.Io.{StartsWith};
+
 use std::fmt::Write;
 use std::{fmt, io, str};
 
@@ -30,7 +32,9 @@ impl fmt::Write for ErrorText {
 }
 
 // The reason alone, where its number may stand behind it.
-fn reason(text: &str) -> &str {
+fn reason(text: &str) -> &str
+    ensures { StartsWith text.now result.now }
+{
     match text.split_once(NUMBER) {
         Some((reason, _)) => reason,
         None => text,
