@@ -1,7 +1,6 @@
 use mathlib.Core.Path.{◌∙◌}
 use borrow.Author.Tests.{eq-eqb, ne_eqb}
 use Rattle.fold_output.specs.Lines.{fold_line}
-use borrow.Author.Rules.{rules}
 use Rattle.fold_output.proofs.fold_line.Goals as goal
 
 pub returns-then-code-eq0 : goal.returns-then-code-eq0

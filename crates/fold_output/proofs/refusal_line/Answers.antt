@@ -1,6 +1,5 @@
 use Rattle.fold_output.specs.Lines.{refusal_line}
 use Rattle.console.proofs.Putting.{and_then, and-text}
-use borrow.Author.Rules.{rules}
 use Rattle.fold_output.proofs.refusal_line.Goals as goal
 
 pub returns : goal.returns

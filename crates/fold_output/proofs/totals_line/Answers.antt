@@ -1,6 +1,5 @@
 use Rattle.fold_output.specs.Lines.{total, totals_line}
 use Rattle.console.proofs.Putting.{a-count, and-count, and-text}
-use borrow.Author.Rules.{rules}
 use Rattle.fold_output.proofs.totals_line.Goals as goal
 
 pub returns : goal.returns

@@ -1,6 +1,5 @@
 use mathlib.Core.Path.{ap, ◌∙◌}
 use mathlib.Core.List.{[], ◌∷◌}
-use borrow.Author.Rules.{rules}
 use Rattle.lists.specs.Bytes.{Bytes}
 use Rattle.trace_output.specs.Lines.{placed_line}
 use Rattle.console.specs.Waiting.{behind, all_behind, decimal}

@@ -1,10 +1,6 @@
-use Prim.Native.Nat.{◌-◌, ◌≤◌}
 use native.Mathlib.Omega.{arith}
-use mathlib.Core.Path.{◌≡◌, refl, sym, ◌∙◌}
-use lib.ListN.{length, drop}
-use borrow.Author.Rules.{rules}
-use Rattle.trace_output.specs.Lines.{placed_lines}
-use Rattle.console.specs.Waiting.{waits, all_behind}
+use mathlib.Core.Path.{refl, sym, ◌∙◌}
+use Rattle.console.specs.Waiting.{waits}
 use Rattle.trace_output.proofs.Printing.{line-turn, line-done}
 use Rattle.trace_output.proofs.placed_lines.Goals as goal
 

@@ -1,11 +1,8 @@
 use Prim.Native.Nat.{◌-◌, ◌≤◌}
-use native.Mathlib.Omega.{arith}
-use mathlib.Core.Path.{◌≡◌, refl, sym, ◌∙◌}
+use mathlib.Core.Path.{◌≡◌}
 use lib.ListN.{length, drop}
-use borrow.Author.Rules.{rules}
 use Rattle.trace_output.specs.Lines.{placed_lines}
 use Rattle.console.specs.Waiting.{waits, all_behind}
-use Rattle.trace_output.proofs.Printing.{line-turn, line-done}
 use Rattle.trace_output.proofs.placed_lines.Given as goal
 
 abbrev pub invariant-loop-i : goal.invariant-loop-i

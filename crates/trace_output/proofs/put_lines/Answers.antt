@@ -1,14 +1,10 @@
-use mathlib.Core.Path.{◌≡◌, ap, sym, ◌∙◌}
-use lib.ListN.{length}
+use mathlib.Core.Path.{ap, sym, ◌∙◌}
 use lib.Seq.{length-take-le}
-use Rattle.lists.specs.Bytes.{Bytes}
 use Rattle.console.specs.Waiting.{waits, all_behind}
 use Rattle.trace_format.specs.Traces.{read_trace}
 use Rattle.trace_run.proofs.Running.{ran-within}
 use Rattle.trace_output.specs.Lines.{placed_lines}
 use Rattle.trace_output.proofs.Printing.{ran-lines, without-totals, with-totals}
-use borrow.Author.Tests.{not-true, not-false}
-use borrow.Author.Rules.{rules}
 use Rattle.trace_output.proofs.put_lines.Goals as goal
 
 pub slice_bounds-lines-end : goal.slice_bounds-lines-end

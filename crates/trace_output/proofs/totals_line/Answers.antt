@@ -1,7 +1,6 @@
 use mathlib.Core.Path.{refl}
 use Rattle.trace_output.specs.Lines.{totals_line}
 use Rattle.console.proofs.Putting.{a-count, and-count, and-text}
-use borrow.Author.Rules.{rules}
 use Rattle.trace_output.proofs.totals_line.Goals as goal
 
 pub returns : goal.returns
