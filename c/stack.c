@@ -48,6 +48,13 @@ static uint64_t fold(uint8_t *out) {
                                GAP_QUARANTINE_TOTALS);
 }
 
+/* The same, with an unknown mark behind the last record. */
+static uint64_t refused_fold(uint8_t *out) {
+    uint64_t code = gap_quarantine_fold(shared->journal, shared->journal_len + 2, out, GAP_QUARANTINE_OUT, shared->totals,
+                                        GAP_QUARANTINE_TOTALS);
+    return code - 256 * shared->journal_len;
+}
+
 static uint64_t restore(uint8_t *out) {
     (void)out;
     return gap_quarantine_restore(shared->journal, GAP_QUARANTINE_PARK, shared->frame, GAP_QUARANTINE_FRAME);
@@ -60,6 +67,7 @@ static const struct measure {
     uint64_t due;
 } measures[] = {
     {"gap_quarantine_fold", fold, 0},
+    {"gap_quarantine_fold, refused", refused_fold, 10},
     {"gap_quarantine_restore", restore, 0},
     {"gap_quarantine_write_park", park, 256 * GAP_QUARANTINE_PARK},
     {"gap_quarantine_write_tentative", tentative, 256 * GAP_QUARANTINE_TENTATIVE},

@@ -22,7 +22,7 @@ extern "C" {
 
 /*
  * The stack that a thread needs at most for any of the calls, in bytes. It is measured (c/stack.c), not proved, and has a margin:
- * 84 KiB in all are enough for a thread that folds, and 16 KiB, the smallest stack that a thread can have, for each of the other
+ * 124 KiB in all are enough for a thread that folds, and 16 KiB, the smallest stack that a thread can have, for each of the other
  * calls. No function recurses.
  */
 #define GAP_QUARANTINE_STACK 131072

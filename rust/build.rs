@@ -1,4 +1,4 @@
-// Links the archive that `rt staticlib journal_exports` writes, or the one that the variable JOURNAL_EXPORTS_ARCHIVE names.
+// Links the archive that `tools/build journal_exports_c` writes, or the one that the variable JOURNAL_EXPORTS_ARCHIVE names.
 use std::env;
 use std::path::{Path, PathBuf};
 use std::process::exit;
@@ -10,7 +10,7 @@ fn main() {
     println!("cargo:rerun-if-changed={}", archive.display());
     if !archive.is_file() {
         eprintln!("There is no archive {}.", archive.display());
-        eprintln!("Write it with `rt staticlib journal_exports`, or name another in {VARIABLE}.");
+        eprintln!("Write it with `tools/build journal_exports_c`, or name another in {VARIABLE}.");
         exit(1);
     }
     let (folder, name) = (archive.parent().unwrap(), archive.file_name().unwrap());
@@ -18,7 +18,7 @@ fn main() {
     println!("cargo:rustc-link-lib=static:+verbatim={}", Path::new(name).display());
 }
 
-/// The file that the variable names, or else the one that `rt` writes.
+/// The file that the variable names, or else the one that `tools/build` writes.
 fn archive() -> PathBuf {
     println!("cargo:rerun-if-env-changed={VARIABLE}");
     let named = PathBuf::from(env::var_os(VARIABLE).unwrap_or_default());

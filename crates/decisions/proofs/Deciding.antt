@@ -2,9 +2,8 @@
 use Prim.Native.Nat.{ℕ}
 use mathlib.Core.Path.{◌≡◌, refl, sym, ap, ◌∙◌}
 use mathlib.Core.Bool.{Bool, true, false, ◌&&◌}
-use mathlib.Core.List.{List, [], ◌∷◌}
+use mathlib.Core.List.{List}
 use mathlib.Core.Option.{Option, none, some}
-use denote.Enum.Declared.{tag_of}
 use Rattle.lists.specs.Bytes.{Bytes, eq_bytes, eq_numbers}
 use Rattle.store_rules.specs.Frames.{Standing, Entry, Guard, Row, Visit, is_tracked}
 use Rattle.store_rules.specs.Poll.{Content, predecessors, boundary_holds, content_matches, guard_matches, row, stay, leave, poll_given, poll_rule}
@@ -20,7 +19,6 @@ use Rattle.decisions.specs.declared.rows.Telling.{Telling}
 use Rattle.decisions.specs.declared.rows.Telling.TheVariants.{Consumed, Hold, Waits, HeldBack, Rescued}
 use Rattle.decisions.specs.declared.poll.Course.{Course}
 use Rattle.decisions.specs.declared.poll.Course.TheVariants.{Silent, Tells}
-use Rattle.decisions.specs.contracts.rows.Telling.{the_type}
 
 -- ---- the state
 

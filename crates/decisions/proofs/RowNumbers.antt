@@ -1,5 +1,5 @@
 -- The numbers of a row.
-use Prim.Native.Nat.{ℕ, ◌+◌, ◌-◌, ◌≤◌}
+use Prim.Native.Nat.{ℕ, ◌+◌, ◌≤◌}
 use native.Mathlib.Omega.{arith}
 use mathlib.Core.Path.{◌≡◌, refl, ◌∙◌}
 use mathlib.Core.Bool.{true, false}
@@ -11,7 +11,7 @@ use Rattle.lists.proofs.Keeping.{keep-each, each_of}
 use Rattle.lists.proofs.Writing.{at-behind}
 use Rattle.short_rows.specs.Mark.{mark_of}
 use Rattle.store_rules.specs.Frames.{Frame}
-use Rattle.store_rules.specs.Poll.{predecessors, unknown, row}
+use Rattle.store_rules.specs.Poll.{predecessors, unknown}
 use Rattle.store_rules.specs.Store.{RowForm, long, short, row_width}
 use Rattle.store_rules.specs.Answers.{decision_number, row_numbers}
 use Rattle.store_rules.proofs.GapNonces.{preds-in-gap, unknown-in-gap, gap-few}

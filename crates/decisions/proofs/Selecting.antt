@@ -9,7 +9,6 @@ use mathlib.Core.Option.{Option, some}
 use lib.Dec.{leb, ltb}
 use lib.ListN.{length, set, length-append}
 use borrow.Author.Tests.{le-ltb, eq-eqb, ne_eqb}
-use denote.Enum.Declared.{tag_of}
 use Rattle.lists.specs.Bytes.{Bytes, eq_bytes}
 use Rattle.lists.specs.Lists.{keep, written_at}
 use Rattle.lists.proofs.Writing.{one_at, three-at, at-behind}
@@ -28,7 +27,6 @@ use Rattle.decisions.specs.Selections.{revives, ends, selected, taken, select_ru
 use Rattle.decisions.specs.declared.selection.Selection.{Selection}
 use Rattle.decisions.specs.declared.selection.Selecting.{Selecting}
 use Rattle.decisions.specs.declared.selection.Selecting.TheVariants.{OfSender, Reorganised, Finalized}
-use Rattle.decisions.specs.contracts.selection.Selecting.{the_type}
 
 -- ---- the tests
 

@@ -7,7 +7,6 @@ use mathlib.Core.Option.{none}
 use mathlib.Core.List.{List, [], ◌∷◌, map}
 use lib.Dec.{ltb}
 use lib.ListN.{length, take, get_or, set}
-use denote.Enum.Declared.{tag_of}
 use Rattle.lists.specs.Bytes.{Bytes}
 use Rattle.lists.specs.Lists.{keep}
 use Rattle.lists.proofs.Compacting.{clamp}
@@ -26,7 +25,6 @@ use Rattle.store_rules.specs.declared.Held.{Held}
 use Rattle.decisions.specs.declared.selection.Selection.{Selection}
 use Rattle.decisions.specs.declared.selection.Selecting.{Selecting}
 use Rattle.decisions.specs.declared.selection.Selecting.TheVariants.{OfSender, Reorganised, Finalized}
-use Rattle.decisions.specs.contracts.selection.Selecting.{the_type}
 
 -- the state of its loop: whatever the bodies are
 abbrev pub Passing : Selection → ℕ → ℕ → List coded.Entry → Bytes → ℕ → List ℕ → List ℕ → List coded.Entry → Bytes → List ℕ → List ℕ → ℕ → ℕ → ℕ → Type 0

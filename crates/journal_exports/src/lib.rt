@@ -1,4 +1,5 @@
-// The exported C functions: the fold of a journal, the restore of a frame and the writers of the records, on numbers and byte slices.
+// What the exported C functions do: the fold of a journal, the restore of a frame and the writers of the records, on numbers and byte
+// slices. `journal_exports_c` exports each under its name.
 #![tactic(auto)]
 
 ghost use Rattle.std.specs.Prelude.{◌≡◌};

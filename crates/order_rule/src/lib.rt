@@ -13,7 +13,7 @@ pub fn order_rule()
     ensures { OrderRule }
 {}
 
-// The same from any store whose entries are in walk order.
+// Two orders of the same calls, from any store whose entries are in walk order.
 pub fn order_rule_from()
     ensures { (s : Store) → Sorted s.entries → OrderRuleFrom s }
 {}

@@ -8,7 +8,6 @@ use mathlib.Core.Option.{Option, none, some}
 use mathlib.Core.List.{List, [], ◌∷◌, map}
 use lib.ListN.{length, take, get_or, set}
 use lib.Seq.{set-get_or}
-use denote.Enum.Declared.{tag_of}
 use Rattle.lists.specs.Bytes.{Bytes}
 use Rattle.lists.specs.Lists.{keep, written_at}
 use Rattle.lists.proofs.Compacting.{clamp}
@@ -32,8 +31,6 @@ use Rattle.decisions.specs.declared.rows.Telling.{Telling}
 use Rattle.decisions.specs.declared.rows.Telling.TheVariants.{Consumed, Hold, Waits, HeldBack, Rescued}
 use Rattle.decisions.specs.declared.poll.Course.{Course}
 use Rattle.decisions.specs.declared.poll.Course.TheVariants.{Silent, Tells}
-use Rattle.decisions.specs.contracts.rows.Telling as telling
-use Rattle.decisions.specs.contracts.poll.Course as course
 use Rattle.decisions.specs.declared.rows.RowForm as coded-form
 use Rattle.decisions.specs.declared.rows.RowForm.TheVariants.{Long, Short}
 use Rattle.answers.specs.declared.Answer.{Answer}

@@ -13,7 +13,7 @@ pub fn sharding_rule()
     ensures { ShardingRule }
 {}
 
-// The same with owners that the host tells.
+// Shards in the place of one store, with owners that the host tells.
 pub fn sharding_rule_told()
     ensures { ShardingRuleTold }
 {}

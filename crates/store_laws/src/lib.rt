@@ -16,7 +16,7 @@ pub fn refused_by_place()
     ensures { RefusedByPlace }
 {}
 
-// Refusals but 2, 5 and 8 hang on inputs alone.
+// Refusals but 2, 5 and 8 depend on inputs alone.
 pub fn refused_by_inputs()
     ensures { RefusedByInputs }
 {}
@@ -26,12 +26,12 @@ pub fn reading_refused()
     ensures { (s : Store) → ReadingRefused s }
 {}
 
-// A refused call answers its number and changes nothing.
+// A refused call returns its number and changes nothing.
 pub fn refused_changes_nothing()
     ensures { RefusedChangesNothing }
 {}
 
-// The same of sweeps, with the numbers of their place.
+// A refused sweep returns a number of its place and changes nothing.
 pub fn every_sweep_refusal()
     ensures { EverySweepRefusal }
 {}

@@ -4,13 +4,12 @@ use native.Mathlib.Numerals.{add-one}
 use native.Mathlib.Omega.{arith}
 use mathlib.Core.Path.{◌≡◌, refl, ap, sym, ◌∙◌}
 use mathlib.Core.Bool.{Bool, true, false, cond}
-use mathlib.Core.List.{List, [], ◌∷◌, ◌++◌, append-nil}
+use mathlib.Core.List.{List, [], ◌++◌, append-nil}
 use lib.Dec.{ltb}
 use lib.ListN.{length, take, drop, get_or, length-take, drop_of_length-le}
 use lib.Seq.{drop-cons, take_at}
 use borrow.Author.Tests.{lt-ltb, ltb-true}
 use Rattle.lists.specs.Bytes.{Bytes}
-use Rattle.lists.specs.Lists.{written}
 use Rattle.store_rules.specs.Totals.{Totals}
 use Rattle.trace_format.specs.Traces.{Trace, read_trace, refusals, lines_from, lines, trace_totals}
 use Rattle.trace_run.specs.Promises.{RunsTo}

@@ -1,6 +1,6 @@
 -- Request 2027-07's example, F pushed and then polled at head 8, as the bytes that are printed; the same trace cut short; and files at the
 -- corners.
-use Rattle.std.specs.Prelude.{◌≡◌, List, [], ◌∷◌, ◌++◌, ℕ}
+use Rattle.std.specs.Prelude.{◌≡◌, [], ◌∷◌, ◌++◌, ℕ}
 use Rattle.lists.specs.Bytes.{Bytes}
 use Rattle.lists.specs.Lists.{collect}
 use Rattle.trace_laws.specs.Examples.{push_f, poll_f}

@@ -6,6 +6,7 @@ ghost use Rattle.std.specs.Prelude.{◌≡◌};
 ghost use Rattle.console.specs.Waiting.{waits, all_behind};
 ghost use Rattle.trace_format.specs.Traces.{read_trace};
 ghost use Rattle.trace_run.specs.Promises.{totals_of};
+ghost use Rattle.trace_output.specs.Examples.{Examples};
 ghost use Rattle.trace_output.specs.Lines.{placed_line, placed_lines, totals_line, trace_lines, trace_output};
 
 use console::Output;
@@ -74,3 +75,9 @@ pub fn put_trace(rt: HostRuntime, out: &mut Output, read: &[u8; READ], n: usize)
     let all = &read[..];
     put_lines(rt, out, &all[..n]);
 }
+
+// What is printed of some traces, byte by byte. It does nothing, and has the claim as its contract, so that no check passes with the
+// claim unproved.
+pub fn byte_by_byte()
+    ensures { Examples }
+{}

@@ -10,7 +10,7 @@ use lib.Seq.{take-suc-set, drop-set-lt, drop-drop, drop-cons}
 use borrow.Author.Tests.{lt-ltb}
 use Rattle.lists.specs.Bytes.{Bytes}
 use Rattle.lists.specs.Lists.{written, is_empty, sum}
-use Rattle.store_rules.specs.Store.{Store, empty, Call, dead, step, run}
+use Rattle.store_rules.specs.Store.{Store, empty, Call, step, run}
 use Rattle.store_rules.specs.Sweeps.{Item, single, step_item, run_items}
 use Rattle.store_rules.specs.Totals.{Totals, answers, totals}
 use Rattle.queries.specs.Queries.{len}
@@ -21,7 +21,7 @@ use Rattle.trace_format.specs.Standing.{NotRead}
 use Rattle.trace_format.specs.Traces.{Trace, read_trace, lent, end_store, refusal_in, refusals, lines_from, lines, trace_totals}
 use Rattle.trace_format.proofs.Standing.{call-place}
 use Rattle.trace_format.proofs.Calls.{ReadAs, no_calls, with_call, read_none, read-no-call, read-call, read_whole}
-use Rattle.trace_totals.specs.Counting.{zero, counted, with_held}
+use Rattle.trace_totals.specs.Counting.{zero, with_held}
 use Rattle.trace_totals.specs.declared.Counts.{Counts}
 use Rattle.trace_calls.specs.Promises.{end_of}
 use Rattle.trace_run.specs.Promises.{ended_with, totals_of, RunsTo}

@@ -5,7 +5,6 @@ use mathlib.Core.Option.{some}
 use Rattle.store_rules.specs.Poll.{guard_matches}
 use Rattle.store_rules.specs.View.{kind_of, guard_seen}
 use Rattle.guards.proofs.Bodies.{body-read}
-use borrow.Author.Rules.{rules}
 use Rattle.guards.proofs.body_matches.Goals as goal
 
 pub returns : goal.returns

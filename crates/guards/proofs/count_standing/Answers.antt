@@ -1,10 +1,9 @@
-use Prim.Native.Nat.{◌-◌}
 use native.Mathlib.Nat.{zero-add}
 use native.Mathlib.Omega.{arith}
 use borrow.Author.Tests.{eq-eqb, ne_eqb}
 use Rattle.store_rules.specs.View.{labels_of}
 use Rattle.guards.proofs.Labels.{labels_length, label-seen}
-use Rattle.guards.proofs.Turns.{Counting, one-counted, none-counted, all-counted}
+use Rattle.guards.proofs.Turns.{one-counted, none-counted, all-counted}
 use borrow.Author.Rules.{rules}
 use Rattle.guards.proofs.count_standing.Goals as goal
 

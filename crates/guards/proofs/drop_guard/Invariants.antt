@@ -1,10 +1,6 @@
 use Prim.Native.Nat.{◌-◌}
-use native.Mathlib.Omega.{arith}
-use mathlib.Core.Path.{◌≡◌, refl, sym, ◌∙◌}
-use lib.ListN.{length}
 use Rattle.store_rules.specs.View.{labels_of}
-use Rattle.guards.proofs.Turns.{Dropping, cleared, passed, all-dropped}
-use borrow.Author.Rules.{rules}
+use Rattle.guards.proofs.Turns.{Dropping}
 use Rattle.guards.proofs.drop_guard.Given as goal
 
 abbrev pub invariant-loop-i : goal.invariant-loop-i

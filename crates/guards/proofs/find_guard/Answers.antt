@@ -1,9 +1,5 @@
-use Prim.Native.Nat.{◌+◌, ◌-◌, ◌≤◌}
 use native.Mathlib.Omega.{arith}
-use mathlib.Core.Path.{◌≡◌, sym, ◌∙◌}
-use lib.ListN.{take, drop}
-use Rattle.store_rules.specs.View.{labels_of}
-use Rattle.guards.specs.Labels.{label_at}
+use mathlib.Core.Path.{sym, ◌∙◌}
 use Rattle.guards.proofs.Turns.{all-labels, found, other-hash, fallen, none_left}
 use borrow.Author.Rules.{rules}
 use Rattle.guards.proofs.find_guard.Goals as goal

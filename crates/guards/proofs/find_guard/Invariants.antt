@@ -1,11 +1,8 @@
 use Prim.Native.Nat.{◌+◌, ◌-◌, ◌≤◌}
-use native.Mathlib.Omega.{arith}
-use mathlib.Core.Path.{◌≡◌, sym, ◌∙◌}
+use mathlib.Core.Path.{◌≡◌}
 use lib.ListN.{take, drop}
 use Rattle.store_rules.specs.View.{labels_of}
 use Rattle.guards.specs.Labels.{label_at}
-use Rattle.guards.proofs.Turns.{all-labels, found, other-hash, fallen, none_left}
-use borrow.Author.Rules.{rules}
 use Rattle.guards.proofs.find_guard.Given as goal
 
 abbrev pub invariant-loop-i : goal.invariant-loop-i

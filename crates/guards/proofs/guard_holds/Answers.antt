@@ -1,7 +1,6 @@
 use Rattle.store_rules.specs.Poll.{guard_matches}
 use Rattle.store_rules.specs.View.{bodies_of}
 use Rattle.guards.proofs.Holding.{missing, there}
-use borrow.Author.Rules.{rules}
 use Rattle.guards.proofs.guard_holds.Goals as goal
 
 pub returns-then-clamped-k : goal.returns-then-clamped-k

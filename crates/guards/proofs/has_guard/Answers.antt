@@ -1,5 +1,4 @@
 use Rattle.guards.proofs.Holding.{is-guarded}
-use borrow.Author.Rules.{rules}
 use Rattle.guards.proofs.has_guard.Goals as goal
 
 pub returns : goal.returns

@@ -1,6 +1,4 @@
-use Prim.Native.Nat.{◌-◌}
-use Rattle.lists.proofs.Chunks.{Moved, move_start, move-more, move_all}
-use borrow.Author.Rules.{rules}
+use Rattle.lists.proofs.Chunks.{move_start, move-more, move_all}
 use Rattle.guards.proofs.move_numbers.Goals as goal
 
 pub loop-i-init : goal.loop-i-init

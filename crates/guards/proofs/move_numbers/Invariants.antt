@@ -1,6 +1,5 @@
 use Prim.Native.Nat.{◌-◌}
-use Rattle.lists.proofs.Chunks.{Moved, move_start, move-more, move_all}
-use borrow.Author.Rules.{rules}
+use Rattle.lists.proofs.Chunks.{Moved}
 use Rattle.guards.proofs.move_numbers.Given as goal
 
 abbrev pub invariant-loop-i : goal.invariant-loop-i

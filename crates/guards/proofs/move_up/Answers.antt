@@ -1,8 +1,6 @@
-use Prim.Native.Nat.{◌-◌}
 use native.Mathlib.Omega.{arith}
-use Rattle.store_rules.specs.View.{bodies_of, labels_of}
-use Rattle.guards.proofs.Turns.{Moving, move_start, guard-gone, guard-moved, all_moved}
-use borrow.Author.Rules.{rules}
+use Rattle.store_rules.specs.View.{bodies_of}
+use Rattle.guards.proofs.Turns.{move_start, guard-gone, guard-moved, all_moved}
 use Rattle.guards.proofs.move_up.Goals as goal
 
 pub loop-i-init : goal.loop-i-init

@@ -1,8 +1,6 @@
 use Prim.Native.Nat.{◌-◌}
-use native.Mathlib.Omega.{arith}
 use Rattle.store_rules.specs.View.{bodies_of, labels_of}
-use Rattle.guards.proofs.Turns.{Moving, move_start, guard-gone, guard-moved, all_moved}
-use borrow.Author.Rules.{rules}
+use Rattle.guards.proofs.Turns.{Moving}
 use Rattle.guards.proofs.move_up.Given as goal
 
 abbrev pub invariant-loop-i : goal.invariant-loop-i

@@ -3,7 +3,6 @@ use native.Mathlib.Omega.{arith}
 use Rattle.store_rules.specs.View.{kind_of}
 use Rattle.store_rules.proofs.Seen.{pasted}
 use Rattle.guards.proofs.Bodies.{good-contents, body-put}
-use borrow.Author.Rules.{rules}
 use Rattle.guards.proofs.put_body.Goals as goal
 
 pub put_bytes-requires : goal.put_bytes-requires

@@ -1,6 +1,5 @@
 use native.Mathlib.Omega.{arith}
 use Rattle.guards.proofs.Labels.{label-put}
-use borrow.Author.Rules.{rules}
 use Rattle.guards.proofs.put_label.Goals as goal
 
 pub returns : goal.returns

@@ -1,8 +1,5 @@
-use Prim.Native.Nat.{◌-◌, ◌≤◌}
 use native.Mathlib.Omega.{arith}
-use mathlib.Core.Path.{◌≡◌, refl, sym, ◌∙◌}
-use lib.ListN.{length, drop}
-use Rattle.lists.specs.Bytes.{le_bytes}
+use mathlib.Core.Path.{refl, sym, ◌∙◌}
 use Rattle.lists.proofs.Turns.{le-longer, le-less, le-more, le-turn, le-none}
 use borrow.Author.Rules.{rules}
 use Rattle.lists.proofs.not_after.Goals as goal

@@ -1,10 +1,7 @@
 use Prim.Native.Nat.{◌-◌, ◌≤◌}
-use native.Mathlib.Omega.{arith}
-use mathlib.Core.Path.{◌≡◌, refl, sym, ◌∙◌}
+use mathlib.Core.Path.{◌≡◌}
 use lib.ListN.{length, drop}
 use Rattle.lists.specs.Bytes.{le_bytes}
-use Rattle.lists.proofs.Turns.{le-longer, le-less, le-more, le-turn, le-none}
-use borrow.Author.Rules.{rules}
 use Rattle.lists.proofs.not_after.Given as goal
 
 abbrev pub invariant-loop-i : goal.invariant-loop-i

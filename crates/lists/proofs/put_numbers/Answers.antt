@@ -1,8 +1,6 @@
-use Prim.Native.Nat.{◌-◌, ◌≤◌}
-use mathlib.Core.Path.{◌≡◌, sym}
-use lib.ListN.{length, take, length-set, take-append-drop}
+use mathlib.Core.Path.{sym}
+use lib.ListN.{length-set, take-append-drop}
 use lib.Seq.{take_all}
-use Rattle.lists.specs.Lists.{written_at}
 use Rattle.lists.proofs.Writing.{copy_more}
 use borrow.Author.Rules.{rules}
 use Rattle.lists.proofs.put_numbers.Goals as goal

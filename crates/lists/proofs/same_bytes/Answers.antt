@@ -1,8 +1,7 @@
-use Prim.Native.Nat.{◌+◌, ◌-◌, ◌≤◌, ◌<◌}
+use Prim.Native.Nat.{◌<◌}
 use native.Mathlib.Omega.{arith}
-use mathlib.Core.Path.{◌≡◌, refl, sym}
-use lib.ListN.{length, drop}
-use Rattle.lists.specs.Bytes.{eq_bytes}
+use mathlib.Core.Path.{refl, sym}
+use lib.ListN.{length}
 use Rattle.lists.proofs.Turns.{eq-lengths}
 use Rattle.lists.proofs.Same.{differs, agrees, done}
 use borrow.Author.Rules.{rules}

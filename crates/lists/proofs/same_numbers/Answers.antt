@@ -1,9 +1,6 @@
-use Prim.Native.Nat.{◌-◌, ◌≤◌}
 use native.Mathlib.Omega.{arith}
-use mathlib.Core.Path.{◌≡◌, refl, sym, ◌∙◌}
-use lib.ListN.{length, drop}
+use mathlib.Core.Path.{refl, sym, ◌∙◌}
 use borrow.Author.Tests.{eq-eqb, ne_eqb}
-use Rattle.lists.specs.Bytes.{eq_bytes}
 use Rattle.lists.proofs.Turns.{eq-turn, eq-none, eq-lengths}
 use borrow.Author.Rules.{rules}
 use Rattle.lists.proofs.same_numbers.Goals as goal

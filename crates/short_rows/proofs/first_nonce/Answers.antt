@@ -2,9 +2,8 @@ use Prim.Native.Nat.{◌+◌, ◌^◌}
 use native.Mathlib.Omega.{arith}
 use mathlib.Core.Path.{sym, ◌∙◌}
 use lib.Count.{count_trailing_zeros, trailing_le}
-use borrow.Author.Tests.{ltb-true, not-true, not-false}
+use borrow.Author.Tests.{ltb-true}
 use Rattle.short_rows.proofs.Reading.{first-of-none, first-beyond, first-is}
-use borrow.Author.Rules.{rules}
 use Rattle.short_rows.proofs.first_nonce.Goals as goal
 
 pub returns-then-mark-eq0 : goal.returns-then-mark-eq0

@@ -1,4 +1,3 @@
-use borrow.Author.Rules.{rules}
 use Rattle.short_rows.proofs.Reading.{nonce-fits}
 use Rattle.short_rows.proofs.is_nonce.Goals as goal
 

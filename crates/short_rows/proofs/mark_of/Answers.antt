@@ -1,10 +1,9 @@
-use Prim.Native.Nat.{◌-◌, ◌≤◌, ◌<◌}
+use Prim.Native.Nat.{◌<◌}
 use native.Mathlib.Numerals.{add-one}
 use native.Mathlib.Omega.{arith}
-use mathlib.Core.Path.{◌≡◌, sym, ◌∙◌}
+use mathlib.Core.Path.{sym, ◌∙◌}
 use lib.ListN.{length, take, get_or}
 use lib.Seq.{take-suc, take_all}
-use Rattle.short_rows.specs.Mark.{mark_of}
 use Rattle.short_rows.proofs.Marking.{none-marked, mark-below, mark-beyond, mark-within}
 use borrow.Author.Rules.{rules}
 use Rattle.short_rows.proofs.mark_of.Goals as goal

@@ -1,9 +1,8 @@
-use Prim.Native.Nat.{◌+◌, ◌-◌, ◌^◌}
+use Prim.Native.Nat.{◌+◌, ◌^◌}
 use native.Mathlib.Omega.{arith}
 use mathlib.Core.Path.{refl, sym, ◌∙◌}
 use borrow.Author.Tests.{ltb-true}
-use Rattle.short_rows.proofs.Reading.{Reads, read_none, read-nonce, read-beyond, read-unset, read_all}
-use borrow.Author.Rules.{rules}
+use Rattle.short_rows.proofs.Reading.{read_none, read-nonce, read-beyond, read-unset, read_all}
 use Rattle.short_rows.proofs.nonces_of.Goals as goal
 
 pub loop-i-init : goal.loop-i-init

@@ -1,9 +1,5 @@
-use Prim.Native.Nat.{◌+◌, ◌-◌, ◌^◌}
-use native.Mathlib.Omega.{arith}
-use mathlib.Core.Path.{refl, sym, ◌∙◌}
-use borrow.Author.Tests.{ltb-true}
-use Rattle.short_rows.proofs.Reading.{Reads, read_none, read-nonce, read-beyond, read-unset, read_all}
-use borrow.Author.Rules.{rules}
+use Prim.Native.Nat.{◌-◌}
+use Rattle.short_rows.proofs.Reading.{Reads}
 use Rattle.short_rows.proofs.nonces_of.Given as goal
 
 abbrev pub invariant-loop-i : goal.invariant-loop-i

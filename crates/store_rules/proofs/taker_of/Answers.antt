@@ -1,5 +1,4 @@
 use Rattle.store_rules.specs.Answers.{taker_hash}
-use borrow.Author.Rules.{rules}
 use Rattle.store_rules.proofs.taker_of.Goals as goal
 
 pub returns-in-MinedAt : goal.returns-in-MinedAt

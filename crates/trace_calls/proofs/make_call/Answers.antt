@@ -1,7 +1,6 @@
 use mathlib.Core.Path.{◌≡◌, sym, ◌∙◌}
 use mathlib.Core.Bool.{true, false}
 use lib.ListN.{take}
-use borrow.Author.Rules.{rules}
 use Rattle.lists.specs.Bytes.{eq_bytes}
 use Rattle.store_rules.specs.Store.{long}
 use Rattle.trace_format.specs.Reading.{mark_p, mark_q, mark_g, mark_e, mark_r, mark_f, mark_v, by_mark}

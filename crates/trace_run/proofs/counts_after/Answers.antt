@@ -1,4 +1,3 @@
-use borrow.Author.Rules.{rules}
 use Rattle.trace_run.proofs.counts_after.Goals as goal
 
 pub count-requires : goal.count-requires

@@ -1,4 +1,3 @@
-use borrow.Author.Rules.{rules}
 use Rattle.trace_run.proofs.ended.Goals as goal
 
 pub returns : goal.returns

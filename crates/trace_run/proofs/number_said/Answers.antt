@@ -1,4 +1,3 @@
-use borrow.Author.Rules.{rules}
 use Rattle.trace_run.proofs.number_said.Goals as goal
 
 pub returns-in-Refused : goal.returns-in-Refused

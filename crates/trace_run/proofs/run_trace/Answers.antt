@@ -1,4 +1,3 @@
-use borrow.Author.Rules.{rules}
 use Rattle.trace_run.proofs.Running.{not-run}
 use Rattle.trace_run.proofs.run_trace.Goals as goal
 

@@ -4,7 +4,6 @@ use lib.ListN.{set}
 use Rattle.lists.proofs.Writing.{one_at}
 use Rattle.gap_quarantine.specs.Promises.{view_of}
 use Rattle.trace_run.specs.declared.Ran.{Ran}
-use borrow.Author.Rules.{rules}
 use Rattle.trace_run.proofs.too_long.Goals as goal
 
 pub returns : goal.returns

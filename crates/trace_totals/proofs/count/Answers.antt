@@ -1,6 +1,4 @@
-use borrow.Author.Rules.{rules}
 use native.Mathlib.Omega.{arith}
-use borrow.Author.Rules.{rules}
 use Rattle.store_rules.specs.Store.{row_width}
 use Rattle.trace_totals.proofs.Rows.{fewer}
 use Rattle.trace_totals.proofs.count.Goals as goal

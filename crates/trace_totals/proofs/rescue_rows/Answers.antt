@@ -1,8 +1,5 @@
-use Prim.Native.Nat.{◌+◌, ◌*◌, ◌-◌, ◌<◌}
 use native.Mathlib.Omega.{arith}
-use lib.ListN.{length}
-use borrow.Author.Rules.{rules}
-use Rattle.trace_totals.proofs.Rows.{row-place, Counted, none_yet, every_one, one_more, no_more}
+use Rattle.trace_totals.proofs.Rows.{row-place, none_yet, every_one, one_more, no_more}
 use Rattle.trace_totals.proofs.rescue_rows.Goals as goal
 use Rattle.trace_totals.proofs.rescue_rows.Goals.{then-rows-width-eq1, else-rows-width-eq1}
 

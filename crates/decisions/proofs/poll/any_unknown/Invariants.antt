@@ -1,11 +1,7 @@
 use Prim.Native.Nat.{◌+◌, ◌-◌, ◌≤◌}
-use native.Mathlib.Nat.{add-zero, sub-zero}
-use mathlib.Core.Path.{◌≡◌, sym, ◌∙◌}
-use borrow.Author.Tests.{not-true, not-false}
+use mathlib.Core.Path.{◌≡◌}
 use Rattle.lists.specs.Lists.{is_empty, numbers_from}
-use Rattle.store_rules.specs.Poll.{gap, predecessors, unknown}
-use Rattle.decisions.proofs.Gathering.{missing_in, found-unknown, passed-known, passed-below, none-unknown}
-use borrow.Author.Rules.{rules}
+use Rattle.decisions.proofs.Gathering.{missing_in}
 use Rattle.decisions.proofs.poll.any_unknown.Given as goal
 
 abbrev pub invariant-loop-i : goal.invariant-loop-i

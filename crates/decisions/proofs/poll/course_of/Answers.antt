@@ -1,11 +1,9 @@
 use Rattle.decisions.specs.declared.poll.Course.TheVariants.{Tells}
 use native.Mathlib.Nat.{sub-zero}
 use mathlib.Core.Path.{sym, ◌∙◌}
-use borrow.Author.Tests.{not-true, not-false}
-use Rattle.short_rows.proofs.Gathering.{lists-few, lists-front}
+use Rattle.short_rows.proofs.Gathering.{lists-front}
 use Rattle.guards.specs.Recording.{standing}
 use Rattle.decisions.proofs.Deciding.{other, any-guard, no-match, no-guard, guarded, keeps, silent-keeps, matched}
-use borrow.Author.Rules.{rules}
 use Rattle.decisions.proofs.poll.course_of.Goals as goal
 
 pub returns-then-not-same_address : goal.returns-then-not-same_address

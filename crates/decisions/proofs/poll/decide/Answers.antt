@@ -5,7 +5,6 @@ use Rattle.store_rules.specs.Poll.{row}
 use Rattle.store_rules.specs.View.{entry_of}
 use Rattle.store_rules.proofs.PollCases.{silent, consumed, holds, hold, waits, rescued, poll-is}
 use Rattle.decisions.proofs.Deciding.{tracked-is, tentative-is}
-use borrow.Author.Rules.{rules}
 use Rattle.decisions.proofs.poll.decide.Goals as goal
 
 pub returns-in_default : goal.returns-in_default

@@ -1,5 +1,4 @@
 use Rattle.store_rules.specs.Poll.{held_at}
-use borrow.Author.Rules.{rules}
 use Rattle.decisions.proofs.poll.is_held.Goals as goal
 
 pub returns-in-Never : goal.returns-in-Never

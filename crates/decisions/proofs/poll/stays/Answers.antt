@@ -1,6 +1,5 @@
 use mathlib.Core.Path.{refl}
 use Rattle.decisions.proofs.Deciding.{stays-as}
-use borrow.Author.Rules.{rules}
 use Rattle.decisions.proofs.poll.stays.Goals as goal
 
 pub returns-in_default : goal.returns-in_default

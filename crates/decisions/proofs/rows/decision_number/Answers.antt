@@ -1,5 +1,4 @@
 use Rattle.store_rules.specs.Answers.{decision_number}
-use borrow.Author.Rules.{rules}
 use Rattle.decisions.proofs.rows.decision_number.Goals as goal
 
 pub returns-in-Consumed : goal.returns-in-Consumed

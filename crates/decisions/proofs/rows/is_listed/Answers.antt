@@ -1,6 +1,5 @@
 use mathlib.Core.Path.{ap}
 use mathlib.Core.Bool.{not}
-use borrow.Author.Rules.{rules}
 use Rattle.decisions.proofs.rows.is_listed.Goals as goal
 
 pub returns-in-Hold : goal.returns-in-Hold

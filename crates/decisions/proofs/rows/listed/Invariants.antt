@@ -1,14 +1,8 @@
 use Prim.Native.Nat.{◌-◌, ◌≤◌}
-use native.Mathlib.Omega.{arith}
-use mathlib.Core.Path.{◌≡◌, sym, ◌∙◌}
-use Rattle.lists.specs.Lists.{keep, numbers_from}
-use Rattle.short_rows.proofs.Gathering.{Gathers, gather_none, gather-hit, gather-miss, gathered}
-use Rattle.store_rules.specs.Poll.{gap, predecessors}
-use Rattle.store_rules.specs.View.{frame_of}
+use Rattle.lists.specs.Lists.{keep}
+use Rattle.short_rows.proofs.Gathering.{Gathers}
 use Rattle.decisions.specs.Courses.{is_listed}
-use Rattle.decisions.proofs.Gathering.{preds_of, pred-more, pred-same, keep-hit, keep-miss}
-use Rattle.decisions.proofs.RowNumbers.{nonces-are}
-use borrow.Author.Rules.{rules}
+use Rattle.decisions.proofs.Gathering.{preds_of}
 use Rattle.decisions.proofs.rows.listed.Given as goal
 
 abbrev pub invariant-loop-i : goal.invariant-loop-i

@@ -5,7 +5,7 @@ use mathlib.Core.List.{[], ◌∷◌}
 use lib.Count.{ones-le}
 use lib.ListN.{length}
 use Rattle.lists.proofs.Writing.{length_at}
-use Rattle.short_rows.proofs.Gathering.{lists-few, lists-front}
+use Rattle.short_rows.proofs.Gathering.{lists-front}
 use Rattle.store_rules.specs.Store.{row_width}
 use Rattle.store_rules.specs.View.{frame_of}
 use Rattle.decisions.proofs.RowNumbers.{long-row, short_row}

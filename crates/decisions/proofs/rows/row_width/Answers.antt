@@ -1,5 +1,4 @@
 use Rattle.store_rules.specs.Store.{row_width}
-use borrow.Author.Rules.{rules}
 use Rattle.decisions.proofs.rows.row_width.Goals as goal
 
 pub returns-in-Long : goal.returns-in-Long

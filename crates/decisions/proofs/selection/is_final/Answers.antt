@@ -2,7 +2,6 @@ use mathlib.Core.Path.{ap, ◌∙◌}
 use Prim.Native.Nat.{ℕ}
 use lib.Dec.{leb}
 use Rattle.decisions.proofs.Selecting.{ends_by}
-use borrow.Author.Rules.{rules}
 use Rattle.decisions.proofs.selection.is_final.Goals as goal
 
 pub returns : goal.returns

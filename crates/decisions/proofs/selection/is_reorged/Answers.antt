@@ -2,7 +2,6 @@ use mathlib.Core.Path.{ap, ◌∙◌}
 use mathlib.Core.Bool.{not}
 use native.Mathlib.Omega.{arith}
 use Rattle.decisions.proofs.Selecting.{other_block, any-hash, that-hash}
-use borrow.Author.Rules.{rules}
 use Rattle.decisions.proofs.selection.is_reorged.Goals as goal
 
 pub returns-then-at-block : goal.returns-then-at-block

@@ -1,5 +1,4 @@
 use Rattle.store_rules.specs.Answers.{kind_number}
-use borrow.Author.Rules.{rules}
 use Rattle.decisions.proofs.selection.kind_number.Goals as goal
 
 pub returns-in-MinedAt : goal.returns-in-MinedAt

@@ -1,6 +1,5 @@
 use borrow.Author.Tests.{lt-ltb, le-ltb}
 use Rattle.decisions.proofs.Selecting.{short-of}
-use borrow.Author.Rules.{rules}
 use Rattle.decisions.proofs.selection.lacks_room.Goals as goal
 
 pub returns-in_default : goal.returns-in_default

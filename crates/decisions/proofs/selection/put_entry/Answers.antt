@@ -2,7 +2,6 @@ use native.Mathlib.Omega.{arith}
 use lib.ListN.{length-set}
 use Rattle.store_rules.specs.View.{entry_of}
 use Rattle.decisions.proofs.Selecting.{room_for, ticket-listed, dead-listed, final-room, never-final}
-use borrow.Author.Rules.{rules}
 use Rattle.decisions.proofs.selection.put_entry.Goals as goal
 
 pub bounds-numbers-n : goal.bounds-numbers-n

@@ -1,4 +1,3 @@
-use borrow.Author.Rules.{rules}
 use Rattle.decisions.proofs.selection.selects.Goals as goal
 
 pub returns-in-OfSender : goal.returns-in-OfSender

@@ -1,5 +1,4 @@
 use Rattle.gap_quarantine.proofs.Whole.{whole-gives}
-use borrow.Author.Rules.{rules}
 use Rattle.gap_quarantine.proofs.Quarantine.enter_tentative.Goals as goal
 
 pub returns : goal.returns

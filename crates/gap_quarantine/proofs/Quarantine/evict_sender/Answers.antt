@@ -1,4 +1,3 @@
-use borrow.Author.Rules.{rules}
 use Rattle.gap_quarantine.proofs.Whole.{whole}
 use Rattle.gap_quarantine.proofs.Quarantine.evict_sender.Goals as goal
 

@@ -1,5 +1,4 @@
 use Rattle.gap_quarantine.proofs.Whole.{whole}
-use borrow.Author.Rules.{rules}
 use Rattle.gap_quarantine.proofs.Quarantine.poll_with_content.Goals as goal
 
 pub returns : goal.returns

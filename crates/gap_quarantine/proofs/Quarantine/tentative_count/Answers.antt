@@ -1,4 +1,3 @@
-use borrow.Author.Rules.{rules}
 use Rattle.gap_quarantine.proofs.Quarantine.tentative_count.Goals as goal
 
 pub returns : goal.returns

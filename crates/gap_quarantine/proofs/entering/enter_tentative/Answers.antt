@@ -1,7 +1,6 @@
 use native.Mathlib.Omega.{arith}
 use Rattle.lists.proofs.Compacting.{long}
-use Rattle.store_rules.specs.Lookup.{enters}
-use Rattle.store_rules.proofs.Searches.{Looking, looking-begins, place-fits, looking-on, at-fits, looking-ends}
+use Rattle.store_rules.proofs.Searches.{looking-begins, place-fits, looking-on, at-fits, looking-ends}
 use Rattle.gap_quarantine.proofs.EnterSteps.{absent, present}
 use borrow.Author.Rules.{rules}
 use borrow.Author.Tests.{not-true, not-false}

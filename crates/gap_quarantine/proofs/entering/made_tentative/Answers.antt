@@ -1,4 +1,3 @@
-use borrow.Author.Rules.{rules}
 use Rattle.store_rules.specs.Lookup.{enter_with}
 use Rattle.gap_quarantine.proofs.entering.made_tentative.Goals as goal
 

@@ -1,4 +1,3 @@
-use borrow.Author.Rules.{rules}
 use Rattle.gap_quarantine.proofs.passing.answer_of.Goals as goal
 
 pub returns-in-OfSender : goal.returns-in-OfSender

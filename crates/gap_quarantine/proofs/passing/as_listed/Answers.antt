@@ -1,4 +1,3 @@
-use borrow.Author.Rules.{rules}
 use Rattle.gap_quarantine.proofs.PassTurns.{as-it-is}
 use Rattle.gap_quarantine.proofs.passing.as_listed.Goals as goal
 

@@ -1,16 +1,14 @@
-use Prim.Native.Nat.{◌+◌, ◌-◌, ◌≤◌}
 use native.Mathlib.Omega.{arith}
 use mathlib.Core.Path.{◌≡◌, refl, sym, ap, ◌∙◌}
 use lib.ListN.{length}
-use borrow.Author.Tests.{not-true, not-false}
 use Rattle.lists.specs.Lists.{keep}
 use Rattle.lists.proofs.Compacting.{clamp, long}
 use Rattle.store_rules.specs.Frames.{Entry}
 use Rattle.store_rules.specs.View.{entries_seen}
 use Rattle.decisions.specs.Selections.{selected, is_tentative}
-use Rattle.store_rules.proofs.Counting.{count_left, count-hit, count-miss, count_none}
+use Rattle.store_rules.proofs.Counting.{count-hit, count-miss, count_none}
 use Rattle.gap_quarantine.proofs.PassSteps.{short, has_room}
-use Rattle.gap_quarantine.proofs.PassTurns.{Passing, begins, takes-tentative, skipped, room, revived-one, left_one, passes}
+use Rattle.gap_quarantine.proofs.PassTurns.{begins, takes-tentative, skipped, room, revived-one, left_one, passes}
 use borrow.Author.Rules.{rules}
 use Rattle.gap_quarantine.proofs.passing.pass.Goals as goal
 

@@ -1,17 +1,9 @@
 use Prim.Native.Nat.{◌+◌, ◌-◌, ◌≤◌}
-use native.Mathlib.Omega.{arith}
-use mathlib.Core.Path.{◌≡◌, refl, sym, ap, ◌∙◌}
+use mathlib.Core.Path.{◌≡◌}
 use lib.ListN.{length}
-use borrow.Author.Tests.{not-true, not-false}
-use Rattle.lists.specs.Lists.{keep}
-use Rattle.lists.proofs.Compacting.{clamp, long}
-use Rattle.store_rules.specs.Frames.{Entry}
-use Rattle.store_rules.specs.View.{entries_seen}
-use Rattle.decisions.specs.Selections.{selected, is_tentative}
-use Rattle.store_rules.proofs.Counting.{count_left, count-hit, count-miss, count_none}
-use Rattle.gap_quarantine.proofs.PassSteps.{short, has_room}
-use Rattle.gap_quarantine.proofs.PassTurns.{Passing, begins, takes-tentative, skipped, room, revived-one, left_one, passes}
-use borrow.Author.Rules.{rules}
+use Rattle.decisions.specs.Selections.{selected}
+use Rattle.store_rules.proofs.Counting.{count_left}
+use Rattle.gap_quarantine.proofs.PassTurns.{Passing}
 use Rattle.gap_quarantine.proofs.passing.pass.Given as goal
 
 abbrev pub invariant-loop-i : goal.invariant-loop-i

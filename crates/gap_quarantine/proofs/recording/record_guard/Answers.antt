@@ -1,7 +1,6 @@
 use mathlib.Core.Path.{sym, ◌∙◌}
 use Rattle.store_rules.specs.View.{kind_of}
 use Rattle.gap_quarantine.proofs.RecordSteps.{many-preds, bad-content, no_room, recorded-in}
-use borrow.Author.Rules.{rules}
 use Rattle.gap_quarantine.proofs.recording.record_guard.Goals as goal
 
 pub returns-then-preds-gt16 : goal.returns-then-preds-gt16

@@ -1,4 +1,3 @@
-use borrow.Author.Rules.{rules}
 use Rattle.polls.proofs.polling.answer_of.Goals as goal
 
 pub returns-in-Long : goal.returns-in-Long

@@ -1,6 +1,5 @@
-use borrow.Author.Tests.{not-true, not-false, lt-ltb, le-ltb}
+use borrow.Author.Tests.{lt-ltb, le-ltb}
 use Rattle.store_rules.specs.Store.{bad_content}
-use borrow.Author.Rules.{rules}
 use Rattle.polls.proofs.polling.bad_content.Goals as goal
 
 pub returns-then-not-has_content : goal.returns-then-not-has_content

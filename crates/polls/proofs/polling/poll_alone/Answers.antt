@@ -1,5 +1,4 @@
 use mathlib.Core.Bool.{false≢true}
-use borrow.Author.Rules.{rules}
 use Rattle.polls.proofs.polling.poll_alone.Goals as goal
 
 pub poll_inner-requires : goal.poll_inner-requires

@@ -1,17 +1,11 @@
 use Prim.Native.Nat.{◌+◌, ◌-◌, ◌≤◌}
-use native.Mathlib.Omega.{arith}
-use mathlib.Core.Path.{◌≡◌, refl, sym, ◌∙◌}
-use mathlib.Core.Logic.{⊎_elim}
+use mathlib.Core.Path.{◌≡◌}
 use lib.ListN.{length}
-use Rattle.lists.specs.Lists.{keep}
-use Rattle.lists.proofs.Compacting.{clamp, long}
-use Rattle.store_rules.specs.View.{entries_seen, content_of}
-use Rattle.store_rules.proofs.RowForms.{row_room}
+use Rattle.store_rules.specs.View.{content_of}
 use Rattle.decisions.specs.Courses.{form_of}
-use Rattle.store_rules.proofs.Counting.{count_left, count-hit, count-miss, count_none}
-use Rattle.polls.proofs.PollSteps.{is_of, paired, many-known, content-bad, short-slice}
-use Rattle.polls.proofs.PollTurns.{Polling, begins, silent-one, silent-still, room, stays-one, leaves-one, passes}
-use borrow.Author.Rules.{rules}
+use Rattle.store_rules.proofs.Counting.{count_left}
+use Rattle.polls.proofs.PollSteps.{is_of}
+use Rattle.polls.proofs.PollTurns.{Polling}
 use Rattle.polls.proofs.polling.poll_inner.Given as goal
 
 abbrev pub invariant-loop-i : goal.invariant-loop-i

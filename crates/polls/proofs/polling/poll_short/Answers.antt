@@ -1,4 +1,3 @@
-use borrow.Author.Rules.{rules}
 use Rattle.polls.proofs.polling.poll_short.Goals as goal
 
 pub returns : goal.returns

@@ -1,5 +1,4 @@
 use mathlib.Core.Path.{refl}
-use borrow.Author.Rules.{rules}
 use Rattle.polls.proofs.polling.poll_with_content.Goals as goal
 
 pub returns : goal.returns

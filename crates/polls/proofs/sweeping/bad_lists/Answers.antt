@@ -1,7 +1,6 @@
 use mathlib.Core.Path.{refl}
 use borrow.Author.Tests.{lt-ltb, le-ltb, eq-eqb, ne_eqb}
 use Rattle.store_rules.specs.Sweeps.{bad_lists}
-use borrow.Author.Rules.{rules}
 use Rattle.polls.proofs.sweeping.bad_lists.Goals as goal
 
 pub returns-then-n-gt64 : goal.returns-then-n-gt64

@@ -1,9 +1,5 @@
-use Prim.Native.Nat.{◌-◌, ◌≤◌}
 use native.Mathlib.Omega.{arith}
-use mathlib.Core.Path.{◌≡◌, refl, ◌∙◌}
-use lib.Dec.{eqb}
-use lib.ListN.{length, drop}
-use Rattle.lists.specs.Lists.{sum}
+use mathlib.Core.Path.{refl, ◌∙◌}
 use Rattle.lists.proofs.Sums.{take-off, too_much, nothing_left}
 use Rattle.store_rules.specs.Sweeps.{bad_sum}
 use borrow.Author.Rules.{rules}

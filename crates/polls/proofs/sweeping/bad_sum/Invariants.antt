@@ -1,12 +1,8 @@
 use Prim.Native.Nat.{◌-◌, ◌≤◌}
-use native.Mathlib.Omega.{arith}
-use mathlib.Core.Path.{◌≡◌, refl, ◌∙◌}
+use mathlib.Core.Path.{◌≡◌}
 use lib.Dec.{eqb}
 use lib.ListN.{length, drop}
 use Rattle.lists.specs.Lists.{sum}
-use Rattle.lists.proofs.Sums.{take-off, too_much, nothing_left}
-use Rattle.store_rules.specs.Sweeps.{bad_sum}
-use borrow.Author.Rules.{rules}
 use Rattle.polls.proofs.sweeping.bad_sum.Given as goal
 
 abbrev pub invariant-loop-i : goal.invariant-loop-i

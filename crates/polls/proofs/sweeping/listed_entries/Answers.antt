@@ -1,10 +1,7 @@
-use Prim.Native.Nat.{◌+◌, ◌*◌, ◌-◌, ◌≤◌}
 use native.Mathlib.Omega.{arith}
-use mathlib.Core.Path.{◌≡◌}
-use lib.ListN.{length}
 use Rattle.lists.proofs.Compacting.{clamp, long}
 use Rattle.store_rules.specs.View.{entries_seen}
-use Rattle.polls.proofs.ListedSenders.{listed_left, listed-by-entry, entry_more, entries-end}
+use Rattle.polls.proofs.ListedSenders.{listed-by-entry, entry_more, entries-end}
 use borrow.Author.Rules.{rules}
 use Rattle.polls.proofs.sweeping.listed_entries.Goals as goal
 

@@ -9,7 +9,7 @@ use Rattle.store_rules.specs.Answers.{says_rows, said, numbers_of, bytes_of}
 use Rattle.store_rules.specs.Sweeps.{polls_in, sweep_effect}
 use Rattle.store_rules.specs.View.{Bodies, bodies_of, held_view}
 use Rattle.polls.proofs.PollSteps.{rows-not-refused}
-use Rattle.polls.proofs.SweepTurns.{Taken, takes-nothing, nonces-end, part_length, rows_fit, Sweeping, start, done, turn_by}
+use Rattle.polls.proofs.SweepTurns.{takes-nothing, nonces-end, part_length, rows_fit, start, done, turn_by}
 use borrow.Author.Rules.{rules}
 use Rattle.polls.proofs.sweeping.polls_in_turn.Goals as goal
 

@@ -1,7 +1,6 @@
 use native.Mathlib.Omega.{arith}
 use mathlib.Core.Path.{sym, ◌∙◌}
 use Rattle.polls.proofs.SweepSteps.{agree, sums, bad-lists, bad_sum_lem, big, short-slice, swept}
-use borrow.Author.Rules.{rules}
 use Rattle.polls.proofs.sweeping.sweep.Goals as goal
 
 pub returns-then-lists_are_bad : goal.returns-then-lists_are_bad

@@ -1,7 +1,6 @@
-use Prim.Native.Nat.{◌+◌, ◌-◌, ◌≤◌}
 use native.Mathlib.Omega.{arith}
-use mathlib.Core.Path.{◌≡◌, sym, ◌∙◌}
-use Rattle.polls.proofs.ListedSenders.{times_left, time-more, no-time, times-end}
+use mathlib.Core.Path.{sym, ◌∙◌}
+use Rattle.polls.proofs.ListedSenders.{time-more, no-time, times-end}
 use borrow.Author.Rules.{rules}
 use Rattle.polls.proofs.sweeping.times_listed.Goals as goal
 

@@ -1,8 +1,6 @@
 use Prim.Native.Nat.{◌+◌, ◌-◌, ◌≤◌}
-use native.Mathlib.Omega.{arith}
-use mathlib.Core.Path.{◌≡◌, sym, ◌∙◌}
-use Rattle.polls.proofs.ListedSenders.{times_left, time-more, no-time, times-end}
-use borrow.Author.Rules.{rules}
+use mathlib.Core.Path.{◌≡◌}
+use Rattle.polls.proofs.ListedSenders.{times_left}
 use Rattle.polls.proofs.sweeping.times_listed.Given as goal
 
 abbrev pub invariant-loop-i : goal.invariant-loop-i

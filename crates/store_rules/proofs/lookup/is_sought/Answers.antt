@@ -3,7 +3,6 @@ use Rattle.lists.specs.Bytes.{eq_bytes}
 use Rattle.store_rules.specs.Searching.{sought}
 use Rattle.store_rules.specs.View.{entry_of}
 use Rattle.store_rules.proofs.Seen.{enters-tentative, enters-tracked}
-use borrow.Author.Rules.{rules}
 use Rattle.store_rules.proofs.lookup.is_sought.Goals as goal
 use Rattle.store_rules.proofs.lookup.is_sought.Goals.{then-tracked+in-Tracked, else-tracked}
 

@@ -1,6 +1,5 @@
 use native.Mathlib.Omega.{arith}
 use mathlib.Core.Path.{sym, ◌∙◌}
-use borrow.Author.Rules.{rules}
 use Rattle.store_rules.proofs.Matches.{no-contents, no-nonces, by-contents}
 use Rattle.store_rules.proofs.matching.content_matches.Goals as goal
 

@@ -1,9 +1,7 @@
-use Prim.Native.Nat.{◌+◌, ◌*◌, ◌-◌, ◌≤◌}
+use Prim.Native.Nat.{◌+◌, ◌-◌}
 use native.Mathlib.Omega.{arith}
 use mathlib.Core.Path.{◌≡◌, refl, sym, ◌∙◌}
-use lib.ListN.{length, drop}
-use borrow.Author.Tests.{not-true, not-false}
-use Rattle.store_rules.specs.Poll.{contents_hold}
+use lib.ListN.{drop}
 use Rattle.store_rules.proofs.Matches.{hold-turn, hold-none, hold-short}
 use borrow.Author.Rules.{rules}
 use Rattle.store_rules.proofs.matching.contents_hold.Goals as goal

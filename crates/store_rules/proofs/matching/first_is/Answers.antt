@@ -1,9 +1,7 @@
-use Prim.Native.Nat.{◌+◌, ◌*◌, ◌-◌, ◌≤◌}
+use Prim.Native.Nat.{◌+◌, ◌-◌}
 use native.Mathlib.Omega.{arith}
 use mathlib.Core.Path.{◌≡◌, refl, sym, ◌∙◌}
-use lib.ListN.{length, drop}
 use borrow.Author.Tests.{eq-eqb, ne_eqb}
-use Rattle.store_rules.specs.Poll.{first_is}
 use Rattle.store_rules.proofs.Matches.{first-turn, first-none}
 use borrow.Author.Rules.{rules}
 use Rattle.store_rules.proofs.matching.first_is.Goals as goal

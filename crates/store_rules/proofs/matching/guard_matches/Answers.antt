@@ -1,9 +1,7 @@
 use mathlib.Core.Path.{sym, ◌∙◌}
 use mathlib.Core.Option.{some}
-use borrow.Author.Tests.{not-true, not-false}
 use Rattle.store_rules.specs.View.{kind_of}
 use Rattle.store_rules.proofs.Matches.{other-preds, other-boundary, by-content}
-use borrow.Author.Rules.{rules}
 use Rattle.store_rules.proofs.matching.guard_matches.Goals as goal
 
 pub returns-then-not-same_numbers : goal.returns-then-not-same_numbers

@@ -2,7 +2,6 @@ use Prim.Native.Nat.{ℕ}
 use native.Mathlib.Omega.{arith}
 use mathlib.Core.Path.{◌≡◌, ap, ◌∙◌}
 use lib.ListN.{take, drop, get_or}
-use borrow.Author.Rules.{rules}
 use Rattle.store_rules.specs.Store.{long}
 use Rattle.trace_format.specs.Reading.{enter_by}
 use Rattle.trace_calls.proofs.Making.{not_made, made}

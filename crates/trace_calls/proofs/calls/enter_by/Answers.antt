@@ -1,5 +1,4 @@
 use mathlib.Core.Path.{refl}
-use borrow.Author.Rules.{rules}
 use Rattle.trace_calls.proofs.Making.{entered-call}
 use Rattle.trace_calls.proofs.calls.enter_by.Goals as goal
 

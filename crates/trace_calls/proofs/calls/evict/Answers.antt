@@ -1,5 +1,4 @@
 use lib.ListN.{take, drop}
-use borrow.Author.Rules.{rules}
 use Rattle.store_rules.specs.Store.{evict_sender, long}
 use Rattle.trace_calls.proofs.Making.{not_made, made-numbers}
 use Rattle.trace_calls.proofs.Readers.{evict-read, evict-not}

@@ -1,4 +1,3 @@
-use borrow.Author.Rules.{rules}
 use Rattle.store_rules.specs.Store.{long}
 use Rattle.trace_calls.proofs.Making.{not_made, made-answered}
 use Rattle.trace_calls.proofs.Readers.{final-read, final-not}

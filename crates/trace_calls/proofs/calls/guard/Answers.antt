@@ -2,7 +2,6 @@ use Prim.Native.Nat.{ℕ, ◌+◌, ◌*◌, ◌-◌, ◌≤◌}
 use native.Mathlib.Omega.{arith}
 use mathlib.Core.Path.{◌≡◌, refl, ap, ◌∙◌}
 use lib.ListN.{length, take, drop, get_or}
-use borrow.Author.Rules.{rules}
 use Rattle.trace_parts.specs.Parts.{count_at, list_end}
 use Rattle.store_rules.specs.Store.{long}
 use Rattle.trace_parts.proofs.Lists.{kept-fits, kept-front}

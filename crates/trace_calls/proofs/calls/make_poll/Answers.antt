@@ -2,7 +2,6 @@ use Prim.Native.Nat.{◌≤◌}
 use native.Mathlib.Omega.{arith}
 use mathlib.Core.Path.{◌≡◌}
 use lib.ListN.{length, get_or}
-use borrow.Author.Rules.{rules}
 use Rattle.decisions.specs.Courses.{form_of}
 use Rattle.trace_format.specs.Reading.{by_flag}
 use Rattle.trace_parts.specs.Parts.{list_end, numbers_at}

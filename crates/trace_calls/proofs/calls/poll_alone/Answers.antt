@@ -1,4 +1,3 @@
-use borrow.Author.Rules.{rules}
 use Rattle.trace_calls.proofs.calls.poll_alone.Goals as goal
 
 pub returns-in-Long : goal.returns-in-Long

@@ -2,7 +2,6 @@ use Prim.Native.Nat.{ℕ, ◌+◌, ◌*◌, ◌-◌}
 use native.Mathlib.Omega.{arith}
 use mathlib.Core.Path.{◌≡◌, refl, ap}
 use lib.ListN.{take, drop}
-use borrow.Author.Rules.{rules}
 use Rattle.decisions.specs.Courses.{form_of}
 use Rattle.trace_parts.specs.Parts.{count_at, list_end}
 use Rattle.trace_parts.proofs.Lists.{kept-front, kept-fits}

@@ -1,5 +1,4 @@
-use borrow.Author.Rules.{rules}
-use Rattle.store_rules.specs.Store.{push, long}
+use Rattle.store_rules.specs.Store.{long}
 use Rattle.trace_calls.proofs.Making.{not_made, made-alone}
 use Rattle.trace_calls.proofs.Readers.{push-read, push-not}
 use Rattle.trace_calls.proofs.calls.push.Goals as goal

@@ -1,6 +1,5 @@
 use mathlib.Core.Path.{◌∙◌}
 use lib.ListN.{get_or}
-use borrow.Author.Rules.{rules}
 use Rattle.store_rules.specs.Store.{long}
 use Rattle.trace_format.specs.Reading.{by_flag}
 use Rattle.trace_calls.proofs.Making.{not_made, made-numbers}

@@ -1,7 +1,5 @@
 use mathlib.Core.Path.{sym, ◌∙◌}
 use Rattle.store_rules.proofs.Searches.{hit, not_found, of-another, of-the-sender}
-use borrow.Author.Rules.{rules}
-use borrow.Author.Tests.{not-true, not-false}
 use Rattle.store_rules.proofs.lookup.Search.walk.Goals as goal
 
 pub returns-then-is_sought : goal.returns-then-is_sought

@@ -1,0 +1,5 @@
+use Rattle.journal_laws.proofs.Refold.{refolding}
+use Rattle.journal_laws.proofs.refolding.Goals as goal
+
+pub returns : goal.returns
+returns c = refolding
