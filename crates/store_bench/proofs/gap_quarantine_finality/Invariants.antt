@@ -1,12 +1,8 @@
 use Prim.Native.Nat.{◌-◌}
-use mathlib.Core.Path.{◌≡◌, ◌∙◌}
-use native.Mathlib.Omega.{arith}
+use mathlib.Core.Path.{◌≡◌}
 use Rattle.store_rules.specs.Store.{empty}
-use Rattle.store_bench.specs.Loads.{no_bodies, alone}
-use Rattle.store_bench.proofs.Computed.{computed}
-use Rattle.store_bench.proofs.Performing.{leads, seen}
-use Rattle.store_bench.proofs.Rounds.{Ran, fits, next, start, done}
-use borrow.Author.Rules.{rules}
+use Rattle.store_bench.specs.Loads.{alone}
+use Rattle.store_bench.proofs.Rounds.{Ran}
 use Rattle.store_bench.proofs.gap_quarantine_finality.Given as goal
 
 abbrev pub invariant-loop-i : goal.invariant-loop-i

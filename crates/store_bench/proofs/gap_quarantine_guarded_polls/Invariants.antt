@@ -1,12 +1,8 @@
 use Prim.Native.Nat.{◌-◌}
-use mathlib.Core.Path.{◌≡◌, ◌∙◌}
-use native.Mathlib.Omega.{arith}
+use mathlib.Core.Path.{◌≡◌}
 use Rattle.store_rules.specs.View.{bodies_of, held_view}
 use Rattle.store_bench.specs.Loads.{guarded_by}
-use Rattle.store_bench.proofs.Computed.{computed}
-use Rattle.store_bench.proofs.Performing.{leads, seen}
-use Rattle.store_bench.proofs.Rounds.{Ran, fits, next, start, done}
-use borrow.Author.Rules.{rules}
+use Rattle.store_bench.proofs.Rounds.{Ran}
 use Rattle.store_bench.proofs.gap_quarantine_guarded_polls.Given as goal
 
 abbrev pub invariant-loop-i : goal.invariant-loop-i

@@ -1,11 +1,7 @@
 use Prim.Native.Nat.{◌-◌}
-use mathlib.Core.Path.{◌≡◌, ◌∙◌}
-use native.Mathlib.Omega.{arith}
+use mathlib.Core.Path.{◌≡◌}
 use Rattle.store_bench.specs.Loads.{alone, pushed}
-use Rattle.store_bench.proofs.Computed.{computed}
-use Rattle.store_bench.proofs.Performing.{leads, seen}
-use Rattle.store_bench.proofs.Rounds.{Ran, fits, next, start, done}
-use borrow.Author.Rules.{rules}
+use Rattle.store_bench.proofs.Rounds.{Ran}
 use Rattle.store_bench.proofs.gap_quarantine_polls.Given as goal
 
 abbrev pub invariant-loop-i : goal.invariant-loop-i

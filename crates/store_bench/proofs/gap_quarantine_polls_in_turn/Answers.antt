@@ -1,10 +1,8 @@
-use Prim.Native.Nat.{◌-◌}
 use mathlib.Core.Path.{◌≡◌, ap, ◌∙◌}
 use native.Mathlib.Omega.{arith}
-use Rattle.store_bench.specs.Loads.{no_bodies, alone, polled_in_turn}
+use Rattle.store_bench.specs.Loads.{no_bodies, polled_in_turn}
 use Rattle.store_bench.proofs.Performing.{tells}
-use Rattle.store_bench.proofs.Turns.{Turned, none-turned, tells-few, one-turned}
-use borrow.Author.Rules.{rules}
+use Rattle.store_bench.proofs.Turns.{none-turned, tells-few, one-turned}
 use Rattle.store_bench.proofs.gap_quarantine_polls_in_turn.Goals as goal
 
 pub loop-i-init : goal.loop-i-init

@@ -1,10 +1,6 @@
 use Prim.Native.Nat.{◌-◌}
-use mathlib.Core.Path.{◌≡◌, ap, ◌∙◌}
-use native.Mathlib.Omega.{arith}
-use Rattle.store_bench.specs.Loads.{no_bodies, alone, polled_in_turn}
-use Rattle.store_bench.proofs.Performing.{tells}
-use Rattle.store_bench.proofs.Turns.{Turned, none-turned, tells-few, one-turned}
-use borrow.Author.Rules.{rules}
+use Rattle.store_bench.specs.Loads.{alone}
+use Rattle.store_bench.proofs.Turns.{Turned}
 use Rattle.store_bench.proofs.gap_quarantine_polls_in_turn.Given as goal
 
 abbrev pub invariant-loop-i : goal.invariant-loop-i

@@ -1,12 +1,9 @@
-use Prim.Native.Nat.{◌-◌}
-use mathlib.Core.Path.{◌≡◌, ◌∙◌}
+use mathlib.Core.Path.{◌∙◌}
 use native.Mathlib.Omega.{arith}
-use Rattle.store_rules.specs.Store.{empty}
-use Rattle.store_bench.specs.Loads.{no_bodies, alone}
+use Rattle.store_bench.specs.Loads.{no_bodies}
 use Rattle.store_bench.proofs.Computed.{computed}
 use Rattle.store_bench.proofs.Performing.{leads, seen}
-use Rattle.store_bench.proofs.Rounds.{Ran, fits, next, start, done}
-use borrow.Author.Rules.{rules}
+use Rattle.store_bench.proofs.Rounds.{fits, next, start, done}
 use Rattle.store_bench.proofs.gap_quarantine_push_and_rescue.Goals as goal
 
 pub loop-i-init : goal.loop-i-init

@@ -1,10 +1,8 @@
-use Prim.Native.Nat.{◌-◌}
 use mathlib.Core.Path.{◌≡◌, ap, ◌∙◌}
 use native.Mathlib.Omega.{arith}
-use Rattle.store_bench.specs.Loads.{no_bodies, alone, lone, addresses, counted}
+use Rattle.store_bench.specs.Loads.{no_bodies, counted}
 use Rattle.store_bench.proofs.Computed.{swept}
-use Rattle.store_bench.proofs.Rounds.{Ran, fits, next, start, done}
-use borrow.Author.Rules.{rules}
+use Rattle.store_bench.proofs.Rounds.{fits, next, start, done}
 use Rattle.store_bench.proofs.gap_quarantine_sweeps.Goals as goal
 
 pub loop-i-init : goal.loop-i-init

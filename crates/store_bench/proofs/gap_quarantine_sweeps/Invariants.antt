@@ -1,10 +1,7 @@
 use Prim.Native.Nat.{◌-◌}
-use mathlib.Core.Path.{◌≡◌, ap, ◌∙◌}
-use native.Mathlib.Omega.{arith}
-use Rattle.store_bench.specs.Loads.{no_bodies, alone, lone, addresses, counted}
-use Rattle.store_bench.proofs.Computed.{swept}
-use Rattle.store_bench.proofs.Rounds.{Ran, fits, next, start, done}
-use borrow.Author.Rules.{rules}
+use mathlib.Core.Path.{◌≡◌}
+use Rattle.store_bench.specs.Loads.{alone, lone}
+use Rattle.store_bench.proofs.Rounds.{Ran}
 use Rattle.store_bench.proofs.gap_quarantine_sweeps.Given as goal
 
 abbrev pub invariant-loop-i : goal.invariant-loop-i

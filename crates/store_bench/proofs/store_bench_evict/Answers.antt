@@ -1,6 +1,5 @@
 use native.Mathlib.Omega.{arith}
 use Rattle.store_bench.proofs.Computed.{computed}
-use borrow.Author.Rules.{rules}
 use Rattle.store_bench.proofs.store_bench_evict.Goals as goal
 
 pub repeated-requires : goal.repeated-requires

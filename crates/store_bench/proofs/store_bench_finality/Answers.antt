@@ -1,7 +1,6 @@
 use native.Mathlib.Omega.{arith}
 use Rattle.store_bench.specs.Loads.{no_bodies}
 use Rattle.store_bench.proofs.Computed.{computed}
-use borrow.Author.Rules.{rules}
 use Rattle.store_bench.proofs.store_bench_finality.Goals as goal
 
 pub repeated-requires : goal.repeated-requires

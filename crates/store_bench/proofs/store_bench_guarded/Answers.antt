@@ -1,6 +1,5 @@
 use mathlib.Core.Path.{◌∙◌}
 use Rattle.store_bench.proofs.Computed.{at_size}
-use borrow.Author.Rules.{rules}
 use Rattle.store_bench.proofs.store_bench_guarded.Goals as goal
 
 pub held_back-requires : goal.held_back-requires

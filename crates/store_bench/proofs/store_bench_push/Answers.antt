@@ -1,7 +1,6 @@
 use mathlib.Core.Path.{◌∙◌}
 use native.Mathlib.Omega.{arith}
 use Rattle.store_bench.proofs.Computed.{computed}
-use borrow.Author.Rules.{rules}
 use Rattle.store_bench.proofs.store_bench_push.Goals as goal
 
 pub repeated-requires : goal.repeated-requires

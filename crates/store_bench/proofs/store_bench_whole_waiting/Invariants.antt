@@ -1,12 +1,8 @@
 use Prim.Native.Nat.{◌-◌}
-use mathlib.Core.Path.{◌≡◌, ◌∙◌}
-use native.Mathlib.Omega.{arith}
+use mathlib.Core.Path.{◌≡◌}
 use Rattle.gap_quarantine.specs.Promises.{view_of}
 use Rattle.store_bench.specs.Loads.{pushed}
-use Rattle.store_bench.proofs.Computed.{computed}
-use Rattle.store_bench.proofs.Performing.{leads, seen}
-use Rattle.store_bench.proofs.Rounds.{Ran, fits, next, start, done}
-use borrow.Author.Rules.{rules}
+use Rattle.store_bench.proofs.Rounds.{Ran}
 use Rattle.store_bench.proofs.store_bench_whole_waiting.Given as goal
 
 abbrev pub invariant-loop-i : goal.invariant-loop-i

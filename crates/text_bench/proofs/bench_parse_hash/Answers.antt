@@ -1,6 +1,5 @@
 use borrow.Author.Tests.{not-true, not-false}
 use Rattle.text_bench.proofs.Reading.{read_as}
-use borrow.Author.Rules.{rules}
 use Rattle.text_bench.proofs.bench_parse_hash.Goals as goal
 
 pub returns-then-not-parsed : goal.returns-then-not-parsed

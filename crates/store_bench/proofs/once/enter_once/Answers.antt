@@ -3,7 +3,6 @@ use mathlib.Core.Path.{sym, ap, ◌∙◌}
 use mathlib.Core.Bool.{Bool, cond}
 use Rattle.store_bench.specs.Loads.{no_bodies}
 use Rattle.store_bench.proofs.Performing.{tells}
-use borrow.Author.Rules.{rules}
 use Rattle.store_bench.proofs.once.enter_once.Goals as goal
 
 -- 1 for true

@@ -1,6 +1,5 @@
 use mathlib.Core.Path.{◌∙◌}
 use Rattle.store_bench.proofs.Performing.{tells}
-use borrow.Author.Rules.{rules}
 use Rattle.store_bench.proofs.once.evict_once.Goals as goal
 
 pub returns : goal.returns

@@ -1,11 +1,7 @@
-use Prim.Native.Nat.{◌-◌}
 use mathlib.Core.Path.{◌∙◌}
 use native.Mathlib.Omega.{arith}
-use Rattle.store_rules.specs.View.{bodies_of, held_view}
-use Rattle.store_bench.specs.Loads.{guarded, told}
 use Rattle.store_bench.proofs.Performing.{tells}
-use Rattle.store_bench.proofs.Rounds.{Ran, fits, next, start, done}
-use borrow.Author.Rules.{rules}
+use Rattle.store_bench.proofs.Rounds.{fits, next, start, done}
 use Rattle.store_bench.proofs.once.held_back.Goals as goal
 
 pub loop-i-init : goal.loop-i-init

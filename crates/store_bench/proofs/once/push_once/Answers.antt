@@ -1,7 +1,6 @@
 use mathlib.Core.Path.{◌∙◌}
 use Rattle.store_bench.specs.Loads.{no_bodies}
 use Rattle.store_bench.proofs.Performing.{tells}
-use borrow.Author.Rules.{rules}
 use Rattle.store_bench.proofs.once.push_once.Goals as goal
 
 pub returns : goal.returns

@@ -1,9 +1,7 @@
 use Prim.Native.Nat.{◌-◌}
-use native.Mathlib.Omega.{arith}
 use Rattle.store_bench.specs.Loads.{alone}
 use Rattle.store_bench.specs.Once.{told_once}
-use Rattle.store_bench.proofs.Rounds.{Ran, fits, next, start, done}
-use borrow.Author.Rules.{rules}
+use Rattle.store_bench.proofs.Rounds.{Ran}
 use Rattle.store_bench.proofs.once.repeated.Given as goal
 
 abbrev pub invariant-loop-i : goal.invariant-loop-i

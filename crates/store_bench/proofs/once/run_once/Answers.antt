@@ -1,4 +1,3 @@
-use borrow.Author.Rules.{rules}
 use Rattle.store_bench.proofs.once.run_once.Goals as goal
 
 pub returns-in-Push : goal.returns-in-Push

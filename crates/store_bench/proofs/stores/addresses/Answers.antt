@@ -1,7 +1,7 @@
-use Prim.Native.Nat.{◌*◌, ◌-◌, ◌≤◌}
+use Prim.Native.Nat.{◌*◌}
 use mathlib.Core.Path.{◌≡◌, ◌∙◌, ap}
 use native.Mathlib.Omega.{arith}
-use lib.ListN.{length, set}
+use lib.ListN.{set}
 use Rattle.lists.specs.Bytes.{Bytes}
 use Rattle.store_bench.specs.Loads.{addresses}
 use Rattle.store_bench.proofs.Filling.{no_address, one_address}

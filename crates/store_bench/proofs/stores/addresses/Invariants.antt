@@ -1,11 +1,7 @@
-use Prim.Native.Nat.{◌*◌, ◌-◌, ◌≤◌}
-use mathlib.Core.Path.{◌≡◌, ◌∙◌, ap}
-use native.Mathlib.Omega.{arith}
-use lib.ListN.{length, set}
-use Rattle.lists.specs.Bytes.{Bytes}
+use Prim.Native.Nat.{◌-◌, ◌≤◌}
+use mathlib.Core.Path.{◌≡◌}
+use lib.ListN.{length}
 use Rattle.store_bench.specs.Loads.{addresses}
-use Rattle.store_bench.proofs.Filling.{no_address, one_address}
-use borrow.Author.Rules.{rules}
 use Rattle.store_bench.proofs.stores.addresses.Given as goal
 
 abbrev pub invariant-loop-i : goal.invariant-loop-i

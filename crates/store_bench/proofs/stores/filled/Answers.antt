@@ -1,8 +1,5 @@
-use Prim.Native.Nat.{◌-◌, ◌≤◌}
 use mathlib.Core.Path.{◌≡◌, ◌∙◌}
 use native.Mathlib.Omega.{arith}
-use Rattle.store_rules.specs.View.{Bodies, held_view}
-use Rattle.store_bench.specs.Loads.{filled}
 use Rattle.store_bench.proofs.Filling.{filled_none, filled_more}
 use borrow.Author.Rules.{rules}
 use Rattle.store_bench.proofs.stores.filled.Goals as goal

@@ -1,4 +1,3 @@
-use borrow.Author.Rules.{rules}
 use Rattle.store_bench.proofs.stores.frame_of.Goals as goal
 
 pub returns : goal.returns

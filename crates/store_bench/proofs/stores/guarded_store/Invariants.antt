@@ -1,10 +1,7 @@
 use Prim.Native.Nat.{◌-◌, ◌≤◌}
-use mathlib.Core.Path.{◌≡◌, ◌∙◌}
-use native.Mathlib.Omega.{arith}
+use mathlib.Core.Path.{◌≡◌}
 use Rattle.store_rules.specs.View.{bodies_of, held_view}
 use Rattle.store_bench.specs.Loads.{guarded_by}
-use Rattle.store_bench.proofs.Filling.{guarded-none, guarded-more}
-use borrow.Author.Rules.{rules}
 use Rattle.store_bench.proofs.stores.guarded_store.Given as goal
 
 abbrev pub invariant-loop-i : goal.invariant-loop-i

@@ -1,5 +1,4 @@
 use mathlib.Core.Path.{◌∙◌}
-use borrow.Author.Rules.{rules}
 use Rattle.store_bench.proofs.stores.mined.Goals as goal
 
 pub returns : goal.returns

@@ -1,5 +1,4 @@
 use mathlib.Core.Path.{◌∙◌}
-use borrow.Author.Rules.{rules}
 use Rattle.store_bench.proofs.stores.whose.Goals as goal
 
 pub returns-then-apart : goal.returns-then-apart
