@@ -1,6 +1,7 @@
 /*
  * The journal for C and C++: its fold into the pending park records, the frame of one, and the writers of its five records. The
- * library is target/staticlib/libjournal_exports.a, which links on x86-64 only. c/fold.c is an example.
+ * library is target/staticlib/libjournal_exports.a, which links on x86-64 only and needs a processor of x86-64-v2 or later.
+ * c/fold.c is an example.
  *
  * For each of the seven functions:
  *
