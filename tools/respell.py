@@ -1,7 +1,7 @@
 #!/usr/bin/env python3
 """Brings the repository's own definitions and lemmas to today's spelling of names.
 
-usage: python3 tools/respell.py        at the top of the repository, once, after /opt/rattle/port/port.py
+usage: python3 tools/respell.py        at the top of the repository, once, after the kit's port.py
 
 A word in lower camel case becomes snake case, part by part of a name joined by dashes, so `eqBytes-true` becomes `eq_bytes-true`.
 Types, records and facts keep their capital. Names that are imported from outside the repository keep their spelling. The files

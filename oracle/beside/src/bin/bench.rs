@@ -1,4 +1,5 @@
-//! The published Rust and our static libraries on the same inputs, in one run: a line for each, with the ratio.
+//! The published Rust and our static libraries on the same inputs, in one run: a line for each, with the ratio. A fold has a third
+//! side, a plain fold of the same records with a hash map, which tests no field.
 //! FOLD_ARCHIVE and STORE_ARCHIVE name the libraries at build; without them only the Rust is timed.
 use alloy::primitives::{Address, B256};
 use beside::hex::hex;
@@ -17,6 +18,9 @@ use std::collections::BTreeSet;
 use std::fs;
 use std::hint::black_box;
 use std::time::Instant;
+
+#[path = "../../../../rust/examples/plain_fold/mod.rs"]
+mod plain_fold;
 
 /// Each measure runs this often, and the fastest counts: other work on the machine only slows a run down.
 const TRIES: usize = 20;
@@ -212,6 +216,10 @@ fn fold(name: &str, wanted: fn(&Record) -> bool, scratch: &Scratch, ours: Option
         rate(records, || list.iter().map(|(bytes, _)| ours.fold(bytes, &mut out, &mut totals)).sum())
     });
     say(&format!("fold, {name} ({records} records, {json} bytes of JSON or {binary} of records)"), "records", rust, ours);
+    let mut out = vec![0; ENOUGH];
+    let plain = rate(records, || list.iter().map(|(bytes, _)| plain_fold::plain_fold(bytes, &mut out).0 as u64).sum());
+    let ratio = ours.map_or(String::new(), |ours| format!(", our time / its time {:.2}", plain / ours));
+    println!("  a hash map that tests nothing: {plain:.0} records/s{ratio}");
 }
 
 fn main() {
@@ -224,4 +232,6 @@ fn main() {
     fold("QP only", |r| matches!(r, Record::Park(_)), &scratch, linked);
     fold("QT and QR", |r| matches!(r, Record::Tentative(_) | Record::Resolve(_)), &scratch, linked);
     fold("QL only", |r| matches!(r, Record::Legacy(_)), &scratch, linked);
+    fold("QP and QR", |r| matches!(r, Record::Park(_) | Record::Resolve(_)), &scratch, linked);
+    fold("QX only", |r| matches!(r, Record::Other(_)), &scratch, linked);
 }
