@@ -1,5 +1,5 @@
 -- What a call promises: that it gives what the definitions say.
-use Rattle.std.specs.Prelude.{ℕ, ◌≡◌, List, [], length}
+use Rattle.std.specs.Prelude.{ℕ, ◌≡◌, List, [], length, Result, Ok, Err}
 use Rattle.lists.specs.Bytes.{Bytes}
 use Rattle.lists.specs.Lists.{written}
 use Rattle.refusal.specs.Numbers.{refusal_number}
@@ -9,18 +9,19 @@ use Rattle.store_rules.specs.Sweeps.{Sweep, sweep_step}
 use Rattle.store_rules.specs.View.{Bodies, held_view}
 use Rattle.store_rules.specs.declared.Held.{Held}
 use Rattle.answers.specs.declared.Answer as coded
-use Rattle.answers.specs.declared.Answer.TheVariants.{Total, Rows, ShortRows, Recorded, Frames, Dead, Refused}
+use Rattle.answers.specs.declared.Answer.TheVariants.{Total, Rows, ShortRows, Recorded, Frames, Dead}
+use Rattle.refusal.specs.declared.Refusal.{Refusal}
 use Rattle.answers.specs.declared.Outcome.{Outcome}
 
--- what a coded answer says
-abbrev pub heard : coded.Answer → Said
-heard (Total n) = says_total n
-heard (Rows n) = says_rows long n
-heard (ShortRows n) = says_rows short n
-heard Recorded = says_recorded
-heard (Frames n) = says_frames n
-heard (Dead n) = says_dead n
-heard (Refused x) = says_refused (refusal_number x)
+-- what a coded answer says, or a refusal
+abbrev pub heard : Result coded.Answer Refusal → Said
+heard (Ok (Total n)) = says_total n
+heard (Ok (Rows n)) = says_rows long n
+heard (Ok (ShortRows n)) = says_rows short n
+heard (Ok Recorded) = says_recorded
+heard (Ok (Frames n)) = says_frames n
+heard (Ok (Dead n)) = says_dead n
+heard (Err x) = says_refused (refusal_number x)
 
 -- A call gives what the definitions say that is done: the store, what is said and the lent slices, whole; a refusal returns the very
 -- store. `view` says how the definitions see the store's value.
@@ -54,20 +55,20 @@ SweepSteps view q w numbers a q' numbers' = Gives view long q (sweep_step (view 
 -- ---- on the held part
 
 -- with these bodies, and rows in this form
-abbrev pub HeldPerformsIn : RowForm → Bodies → Held → Call → List ℕ → List ℕ → Outcome → List ℕ → List ℕ → Type 0
-HeldPerformsIn form bodies h call numbers bytes r = Steps (held_view bodies) form h call numbers bytes (heard r.answer) r.held
+abbrev pub HeldPerformsIn : RowForm → Bodies → Held → Call → List ℕ → List ℕ → Outcome Held → List ℕ → List ℕ → Type 0
+HeldPerformsIn form bodies h call numbers bytes r = Steps (held_view bodies) form h call numbers bytes (heard r.answer) r.store
 
 -- as document 01 has it: a poll's rows are long
-abbrev pub HeldPerforms : Bodies → Held → Call → List ℕ → List ℕ → Outcome → List ℕ → List ℕ → Type 0
+abbrev pub HeldPerforms : Bodies → Held → Call → List ℕ → List ℕ → Outcome Held → List ℕ → List ℕ → Type 0
 HeldPerforms = HeldPerformsIn long
 
 -- whatever the bodies are: the call neither reads nor writes them
-abbrev pub AlwaysIn : RowForm → Held → Call → List ℕ → List ℕ → Outcome → List ℕ → List ℕ → Type 0
+abbrev pub AlwaysIn : RowForm → Held → Call → List ℕ → List ℕ → Outcome Held → List ℕ → List ℕ → Type 0
 AlwaysIn form h call numbers bytes r numbers' bytes' = (bodies : Bodies) → HeldPerformsIn form bodies h call numbers bytes r numbers' bytes'
 
-abbrev pub Always : Held → Call → List ℕ → List ℕ → Outcome → List ℕ → List ℕ → Type 0
+abbrev pub Always : Held → Call → List ℕ → List ℕ → Outcome Held → List ℕ → List ℕ → Type 0
 Always = AlwaysIn long
 
 -- a sweep, whatever the bodies are
-abbrev pub SweepsAlways : Held → Sweep → List ℕ → Outcome → List ℕ → Type 0
-SweepsAlways h w numbers r numbers' = (bodies : Bodies) → SweepSteps (held_view bodies) h w numbers (heard r.answer) r.held numbers'
+abbrev pub SweepsAlways : Held → Sweep → List ℕ → Outcome Held → List ℕ → Type 0
+SweepsAlways h w numbers r numbers' = (bodies : Bodies) → SweepSteps (held_view bodies) h w numbers (heard r.answer) r.store numbers'

@@ -2,10 +2,9 @@
 #![tactic(auto)]
 
 use refusal::Refusal;
-use store_rules::Held;
 
-// What a call answers: each its own case, or a refusal. Entering answers whose the frame is that entered (`Whose`).
-#[derive(Clone, Copy)]
+// What a call that is done answers, each its own case. Entering answers whose the frame is that entered (`Whose`).
+#[derive(Clone, Copy, Debug, PartialEq, Eq)]
 pub enum Answer {
     // the frames held after a push
     Total(usize),
@@ -19,12 +18,11 @@ pub enum Answer {
     Frames(usize),
     // the frames that finality ends
     Dead(usize),
-    Refused(Refusal),
 }
 
-// An answer, and the held part after the call.
+// An answer, or why the call is refused; and the store after the call, which a refused call leaves as it was.
 #[derive(Clone, Copy)]
-pub struct Outcome {
-    pub answer: Answer,
-    pub held: Held,
+pub struct Outcome<S> {
+    pub answer: Result<Answer, Refusal>,
+    pub store: S,
 }

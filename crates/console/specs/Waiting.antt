@@ -1,20 +1,11 @@
--- A buffer: 4,096 bytes, after them, as u16, how many of them wait to be written, and a byte that says whether a write has failed. What is
--- written is no part of the logic, and what waits is: after texts were put, one by one, and where they are numbers and bytes as digits.
-use Rattle.std.specs.Prelude.{ℕ, zero, suc, ◌-◌, ◌/◌, min, cond, List, [], ◌∷◌, ◌++◌, leb, ltb, length, take, drop}
+-- The bytes that wait to be written, 4,096 at most. What is written is no part of the logic, and what waits is: after texts were put, one by
+-- one, and where they are numbers and bytes as digits.
+use Rattle.std.specs.Prelude.{ℕ, zero, suc, ◌-◌, ◌/◌, cond, List, [], ◌∷◌, ◌++◌, leb, ltb, length}
 use Rattle.lists.specs.Bytes.{Bytes}
-use Rattle.wire.specs.Numbers.{num}
 use Rattle.wire.specs.HashText.{hex_pair}
 use Rattle.io.specs.Digits.{last_digits}
 
--- how many bytes of a buffer wait
-unfoldable pub count : Bytes → ℕ
-count o = min (num (take 2 (drop 4096 o))) 4096
-
--- the bytes that wait
-unfoldable pub waits : Bytes → Bytes
-waits o = take (count o) o
-
--- what waits after a text was put behind w; where it does not fit there, w is written first, and a text that fits nowhere is too
+-- what waits once a text was put after w; where it does not fit there, w is written first, and a text that fits nowhere is too
 unfoldable pub behind : Bytes → Bytes → Bytes
 behind w t = cond (leb (length t) (4096 - length w)) (w ++ t) (cond (leb (length t) 4096) t [])
 

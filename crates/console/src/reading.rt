@@ -1,31 +1,32 @@
 // Standard input.
-ghost use Rattle.console.specs.Reading.{Within};
+ghost use Rattle.std.specs.Prelude.{◌≤◌, length, IfSome};
 
 use crate::failures;
 use std::io::Read;
 
-// What reading came to: how many bytes, or that a read failed.
-#[derive(Clone, Copy)]
-pub enum Input {
-    Read(usize),
+// Why a program reads no further: input that breaks off or is over a limit, or that cannot be read.
+#[derive(Clone, Copy, Debug, PartialEq, Eq)]
+pub enum Stop {
+    Bad,
     Failed,
 }
 
-// Reads standard input to the front of a slice until the slice is full or the input ends. A read that fails is a line on standard
-// error, with its reason, so that it is not taken for the end.
-pub fn read_input(rt: HostRuntime, buffer: &mut [u8]) -> Input
-    ensures { Within result buffer.new }
+// Reads standard input to the front of a slice until the slice is full or the input ends, and returns how many bytes that is. A read
+// that fails is a line on standard error, with its reason, and None, so that it is not taken for the end.
+pub fn read_input(rt: HostRuntime, buffer: &mut [u8]) -> Option<usize>
+    ensures within { IfSome result (λ n. n ≤ length buffer.new) }
 {
     let mut done = 0;
+    // By index: a read says only how many bytes it gave, and they may be any number of those asked for.
     while done < buffer.len() {
         match rt.stdin().read(&mut buffer[done..]) {
-            Ok(0) => return Input::Read(done),
+            Ok(0) => break,
             Ok(more) => done += more,
             Err(e) => {
-                failures::fail(rt, "standard input", e);
-                return Input::Failed;
+                failures::fail(&rt, "standard input", e);
+                return None;
             }
         }
     }
-    Input::Read(done)
+    Some(done)
 }

@@ -3,22 +3,22 @@ use Prim.Native.Nat.{ℕ}
 use mathlib.Core.Path.{◌≡◌, refl, sym, ap, ◌∙◌}
 use mathlib.Core.Bool.{Bool, true, false, ◌&&◌}
 use mathlib.Core.List.{List}
-use mathlib.Core.Option.{Option, none, some}
+use Rattle.std.specs.Prelude.{Option, None, Some}
+use Rattle.std.specs.Option.{option_eq}
+use lib.Dec.{eqb}
 use Rattle.lists.specs.Bytes.{Bytes, eq_bytes, eq_numbers}
-use Rattle.store_rules.specs.Frames.{Standing, Entry, Guard, Row, Visit, is_tracked}
-use Rattle.store_rules.specs.Poll.{Content, predecessors, boundary_holds, content_matches, guard_matches, row, stay, leave, poll_given, poll_rule}
+use Rattle.store_rules.specs.Frames.{Entry, Guard, Row, Visit, is_tracked}
+use Rattle.store_rules.specs.Poll.{Content, held_at, predecessors, boundary_holds, content_matches, guard_matches, row, stay, leave, poll_given, poll_rule}
 use Rattle.store_rules.specs.Rules.{only_of}
 use Rattle.store_rules.specs.Store.{guard_of}
-use Rattle.store_rules.specs.View.{entry_of, Bodies, content_of}
+use Rattle.store_rules.specs.View.{entry_of, Bodies}
 use Rattle.store_rules.specs.declared.Entry as coded
 use Rattle.store_rules.specs.declared.NonceConsumed.{NonceConsumed}
 use Rattle.store_rules.specs.declared.FrameState.TheVariants.{Tracked, Tentative}
 use Rattle.store_rules.proofs.PollCases.{PollCase, silent, consumed, holds, hold, waits, held_back, rescued, poll-case, poll-is}
-use Rattle.decisions.specs.Courses.{staying_as, visit_told, visit_of}
+use Rattle.decisions.specs.Courses.{visit_told, visit_of}
 use Rattle.decisions.specs.declared.rows.Telling.{Telling}
 use Rattle.decisions.specs.declared.rows.Telling.TheVariants.{Consumed, Hold, Waits, HeldBack, Rescued}
-use Rattle.decisions.specs.declared.poll.Course.{Course}
-use Rattle.decisions.specs.declared.poll.Course.TheVariants.{Silent, Tells}
 
 -- ---- the state
 
@@ -30,15 +30,13 @@ pub tentative-is : (e : coded.Entry) (c : NonceConsumed) → e.state ≡ Tentati
 unfolding is_tracked
 tentative-is e c s = rw s
 
--- ---- the tellings
+-- whether it is held at this head
+pub held-eq : (held : Option ℕ) (head : ℕ) → option_eq eqb held (Some head) ≡ held_at held head
+unfolding held_at
+held-eq None head = refl
+held-eq (Some n) head = refl
 
--- only a held frame's standing changes
-pub stays-as : (t : Telling) → (t ≡ Hold → ⊥) → (head : ℕ) (s : Standing) → staying_as t head s ≡ s
-stays-as Consumed k head s = refl
-stays-as Hold k head s = absurd (k refl)
-stays-as Waits k head s = refl
-stays-as HeldBack k head s = refl
-stays-as Rescued k head s = refl
+-- ---- the tellings
 
 -- only a rescued frame leaves
 pub keeps : (t : Telling) → (t ≡ Rescued → ⊥) → (head : ℕ) (known : List ℕ) (e : Entry) → (visit_told t head known e).drops ≡ false
@@ -49,9 +47,9 @@ keeps Waits k head known e = refl
 keeps HeldBack k head known e = refl
 keeps Rescued k head known e = absurd (k refl)
 
-pub silent-keeps : (r : Course) → r ≡ Silent → (head : ℕ) (known : List ℕ) (e : Entry) → (visit_of r head known e).drops ≡ false
+pub silent-keeps : (head : ℕ) (known : List ℕ) (e : Entry) → (visit_of None head known e).drops ≡ false
 unfolding stay
-silent-keeps r q head known e = rw q
+silent-keeps head known e = refl
 
 -- ---- where the guard matters
 
@@ -68,7 +66,7 @@ module _ (head : ℕ) (known : List ℕ) (e : Entry) where
   steady guarded v (rescued t y x u g) h = cc
 
   -- where it is, a guard that matches keeps it waiting for the same nonces
-  saved : (v : Visit Row) → PollCase head known false e v → v.drops ≡ true → visit_of (Tells HeldBack) head known e ≡ poll_given head known true e
+  saved : (v : Visit Row) → PollCase head known false e v → v.drops ≡ true → visit_of (Some HeldBack) head known e ≡ poll_given head known true e
   unfolding stay row
   saved v (silent t) h = cc
   saved v (consumed t y) h = cc
@@ -81,10 +79,10 @@ module _ (head : ℕ) (known : List ℕ) (e : Entry) where
 -- ---- an entry of the sender, or another's
 
 -- without content no guard matches
-no-content : (g : Option Guard) (preds : List ℕ) (expected : ℕ) → guard_matches g preds expected none ≡ false
+no-content : (g : Option Guard) (preds : List ℕ) (expected : ℕ) → guard_matches g preds expected None ≡ false
 unfolding guard_matches content_matches
-no-content none preds expected = refl
-no-content (some g) preds expected = neither (eq_numbers g.predecessors preds) (boundary_holds g.kind expected)
+no-content None preds expected = refl
+no-content (Some g) preds expected = neither (eq_numbers g.predecessors preds) (boundary_holds g.kind expected)
   where
     neither : (a b : Bool) → (a && b && false) ≡ false
     neither true true = refl
@@ -97,14 +95,14 @@ matches head content g e = guard_matches g (predecessors head e.frame) e.frame.e
 
 module _ (sender : Bytes) (head : ℕ) (known : List ℕ) (content : Option Content) (g : Option Guard) (e : Entry) where
   -- the entry comes to this course
-  abbrev Comes : Course → Type 0
+  abbrev Comes : Option Telling → Type 0
   Comes r = only_of sender (poll_rule head known content) g e ≡ visit_of r head known e
 
-  pub other : eq_bytes e.frame.from sender ≡ false → Comes Silent
+  pub other : eq_bytes e.frame.from sender ≡ false → Comes None
   unfolding only_of
   other h = rw h
 
-  module _ (own : eq_bytes e.frame.from sender ≡ true) (r : Course) (so : visit_of r head known e ≡ poll_given head known false e) where
+  module _ (own : eq_bytes e.frame.from sender ≡ true) (r : Option Telling) (so : visit_of r head known e ≡ poll_given head known false e) where
     -- whatever the guard says
     pub any-guard : (visit_of r head known e).drops ≡ false → Comes r
     unfolding only_of poll_rule
@@ -114,17 +112,17 @@ module _ (sender : Bytes) (head : ℕ) (known : List ℕ) (content : Option Cont
     unfolding only_of poll_rule
     no-match m = rw (own, m) (sym so)
 
-    pub no-guard : content ≡ none → Comes r
+    pub no-guard : content ≡ None → Comes r
     no-guard c = no-match (rw c (no-content g (predecessors head e.frame) e.frame.expected))
 
-  pub guarded : eq_bytes e.frame.from sender ≡ true → visit_of (Tells Rescued) head known e ≡ poll_given head known false e →
-      matches head content g e ≡ true → Comes (Tells HeldBack)
+  pub guarded : eq_bytes e.frame.from sender ≡ true → visit_of (Some Rescued) head known e ≡ poll_given head known false e →
+      matches head content g e ≡ true → Comes (Some HeldBack)
   unfolding only_of poll_rule leave
   guarded own so m =
       rw (own, m) (sym (saved head known e (poll_given head known false e) (poll-case head known false e) (ap (λ (v : Visit Row). v.drops) (sym so))))
 
 -- whether the guard matches, as the code asks it of content that came
-pub matched : (hash : Bytes) (guards : Bodies → List Guard) (bodies seen : Bodies) (has : Bool) (nonces : List ℕ) (hashes : Bytes) (own preds : List ℕ) (expected : ℕ) (r : Bool) →
-    has ≡ true → bodies ≡ seen → own ≡ preds → r ≡ guard_matches (guard_of hash (guards seen)) own expected (some (record { nonces = nonces; hashes = hashes })) →
-    guard_matches (guard_of hash (guards bodies)) preds expected (content_of has nonces hashes) ≡ r
-matched hash guards bodies seen has nonces hashes own preds expected r h b p e = rw (h, b, ← p) (sym e)
+pub matched : (hash : Bytes) (guards : Bodies → List Guard) (bodies seen : Bodies) (content : Content) (own preds : List ℕ) (expected : ℕ) (r : Bool) →
+    bodies ≡ seen → own ≡ preds → r ≡ guard_matches (guard_of hash (guards seen)) own expected (Some content) →
+    guard_matches (guard_of hash (guards bodies)) preds expected (Some content) ≡ r
+matched hash guards bodies seen content own preds expected r b p e = rw (b, ← p) (sym e)

@@ -1,4 +1,4 @@
-pub mod Gathering
 pub mod Deciding
+pub mod Gathering
 pub mod RowNumbers
 pub mod Selecting

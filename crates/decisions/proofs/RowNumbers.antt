@@ -1,14 +1,14 @@
 -- The numbers of a row.
-use Prim.Native.Nat.{ℕ, ◌+◌, ◌≤◌}
+use Prim.Native.Nat.{ℕ, ◌≤◌}
 use native.Mathlib.Omega.{arith}
-use mathlib.Core.Path.{◌≡◌, refl, ◌∙◌}
+use mathlib.Core.Path.{◌≡◌, refl, ap, ◌∙◌}
 use mathlib.Core.Bool.{true, false}
-use mathlib.Core.List.{List, [], ◌∷◌}
+use mathlib.Core.List.{List, [], ◌∷◌, ◌++◌}
 use lib.Count.{ones}
-use lib.ListN.{length, replicate}
-use Rattle.lists.specs.Lists.{keep, written, written_at}
+use lib.ListN.{length, drop, replicate}
+use lib.Seq.{drop-drop}
+use Rattle.lists.specs.Lists.{keep, written}
 use Rattle.lists.proofs.Keeping.{keep-each, each_of}
-use Rattle.lists.proofs.Writing.{at-behind}
 use Rattle.short_rows.specs.Mark.{mark_of}
 use Rattle.store_rules.specs.Frames.{Frame}
 use Rattle.store_rules.specs.Poll.{predecessors, unknown}
@@ -50,17 +50,21 @@ few-nonces Rescued head known f = gap-few f (predecessors head f) (preds-in-gap 
 pub row-width : (form : RowForm) (t : Telling) (head : ℕ) (known : List ℕ) (f : Frame) → length (row_numbers form (row_of t head known f)) ≡ row_width form
 row-width form t head known f = row-length form (row_of t head known f) (few-nonces t head known f)
 
-module _ (t : Telling) (head : ℕ) (known : List ℕ) (f : Frame) (at decision : ℕ) (out : List ℕ) (d : decision ≡ decision_number (decision_of t)) where
+module _ (t : Telling) (head : ℕ) (known : List ℕ) (f : Frame) (decision : ℕ) (d : decision ≡ decision_number (decision_of t)) where
   -- a long row: its first three numbers, and then its nonces
-  pub long-row : (count : ℕ) (nonces mid after : List ℕ) → count ≡ length (nonces_of t head known f) → nonces ≡ written (nonces_of t head known f) (replicate 16 0) →
-      at + 3 ≤ length out → mid ≡ written_at at (f.ticket ∷ decision ∷ count ∷ []) out → after ≡ written_at (at + 3) nonces mid →
-      after ≡ written_at at (row_numbers long (row_of t head known f)) out
+  pub long-row : (count : ℕ) (nonces : List ℕ) → count ≡ length (nonces_of t head known f) → nonces ≡ written (nonces_of t head known f) (replicate 16 0) →
+      f.ticket ∷ decision ∷ count ∷ nonces ≡ row_numbers long (row_of t head known f)
   unfolding row_numbers
-  long-row count nonces mid after c n room first rest =
-      rest ∙ rw (first, n, c, d) (at-behind at (f.ticket ∷ decision_number (decision_of t) ∷ length (nonces_of t head known f) ∷ []) (written (nonces_of t head known f) (replicate 16 0)) out room)
+  long-row count nonces c n = rw (n, c, d)
 
   -- a short row
-  pub short_row : (mark count : ℕ) (after : List ℕ) → mark ≡ mark_of f.expected (nonces_of t head known f) → count ≡ ones mark →
-      after ≡ written_at at (f.ticket ∷ decision ∷ f.expected ∷ mark ∷ count ∷ []) out → after ≡ written_at at (row_numbers short (row_of t head known f)) out
+  pub short_row : (mark count : ℕ) → mark ≡ mark_of f.expected (nonces_of t head known f) → count ≡ ones mark →
+      f.ticket ∷ decision ∷ f.expected ∷ mark ∷ count ∷ [] ≡ row_numbers short (row_of t head known f)
   unfolding row_numbers
-  short_row mark count after m c w = w ∙ rw (d, c, m)
+  short_row mark count m c = rw (d, c, m)
+
+-- three numbers at the front, sixteen nonces after them, and what lies past them
+pub long-whole : (x y z : ℕ) (nonces rows : List ℕ) → length nonces ≡ 16 → x ∷ y ∷ z ∷ (nonces ++ drop 16 (drop 3 rows)) ≡ written (x ∷ y ∷ z ∷ nonces) rows
+long-whole x y z nonces rows e =
+    let k : 19 ≡ length (x ∷ y ∷ z ∷ nonces) = omega (arith, e) in
+    ap {B = List ℕ} (λ (rest : List ℕ). x ∷ y ∷ z ∷ (nonces ++ rest)) (drop-drop 16 3 rows ∙ ap {B = List ℕ} (λ (n : ℕ). drop n rows) k)

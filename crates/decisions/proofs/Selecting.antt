@@ -3,89 +3,81 @@ use Prim.Native.Nat.{ℕ, ◌+◌, ◌*◌, ◌≤◌, ◌<◌}
 use native.Mathlib.Nat.{zero-mul, one-mul}
 use native.Mathlib.Omega.{arith}
 use mathlib.Core.Path.{◌≡◌, refl, sym, ap, ◌∙◌}
-use mathlib.Core.Bool.{Bool, true, false, ◌||◌, not, cond, or-false, false≢true}
+use mathlib.Core.Bool.{Bool, true, false, ◌||◌, not, cond, or-false, false≢true, true≢false}
 use mathlib.Core.List.{List, [], ◌∷◌, ◌++◌, map}
-use mathlib.Core.Option.{Option, some}
+use Rattle.std.specs.Prelude.{Option, None, Some}
 use lib.Dec.{leb, ltb}
 use lib.ListN.{length, set, length-append}
-use borrow.Author.Tests.{le-ltb, eq-eqb, ne_eqb}
+use borrow.Author.Tests.{le-ltb, eq-eqb}
 use Rattle.lists.specs.Bytes.{Bytes, eq_bytes}
 use Rattle.lists.specs.Lists.{keep, written_at}
-use Rattle.lists.proofs.Writing.{one_at, three-at, at-behind}
+use Rattle.lists.proofs.Writing.{one_at, at-behind}
 use Rattle.store_rules.specs.Frames.{State, tracked, tentative, Entry, Guard, Visit}
 use Rattle.store_rules.specs.Poll.{stay, leave}
 use Rattle.store_rules.specs.Rules.{only_of, evict_rule, differs, reorg_in, reorg_rule, final_in, final_rule}
 use Rattle.store_rules.specs.Store.{guard_of, drop_guard, after, Walked, walk}
 use Rattle.store_rules.specs.Answers.{kind_number, taker_hash, ticket_numbers, dead_numbers, dead_bytes}
-use Rattle.store_rules.specs.View.{consumed_of, state_seen, block_of, hash_of, entry_of}
+use Rattle.store_rules.specs.View.{consumed_of, state_seen, block_of, entry_of}
 use Rattle.store_rules.specs.declared.Entry as coded
 use Rattle.store_rules.specs.declared.NonceConsumed.{NonceConsumed}
 use Rattle.store_rules.specs.declared.FrameState.TheVariants.{Tracked, Tentative}
 use Rattle.store_rules.specs.Listing.{Puts}
 use Rattle.store_rules.proofs.Seen.{block-seen, hash-seen}
-use Rattle.decisions.specs.Selections.{revives, ends, selected, taken, select_rule, consumed_in, dead_of, number_width, byte_width, numbers_for, bytes_for, is_tentative}
+use Rattle.decisions.specs.Selections.{revives, ends, selected, taken, select_rule, consumed_in, dead_of, number_width, byte_width, numbers_for, bytes_for, is_finality, is_tentative}
 use Rattle.decisions.specs.declared.selection.Selection.{Selection}
-use Rattle.decisions.specs.declared.selection.Selecting.{Selecting}
-use Rattle.decisions.specs.declared.selection.Selecting.TheVariants.{OfSender, Reorganised, Finalized}
+use Rattle.decisions.specs.declared.selection.Selection.TheVariants.{OfSender, Reorganised, Finalized}
 
 -- ---- the tests
 
 module _ (e : coded.Entry) (c : NonceConsumed) (s : e.state ≡ Tentative c) (block : ℕ) where
-  pub ends_by : leb (block_of c) block ≡ ends (state_seen e.state e.block_hash e.taker) block
-  ends_by = rw (s, block-seen c e.block_hash e.taker)
+  module _ (b : block_of c ≡ block) where
+    pub any-hash : true ≡ revives (state_seen e.state e.block_hash e.taker) block None
+    unfolding differs
+    any-hash = rw (s, block-seen c e.block_hash e.taker, eq-eqb (block_of c) block b)
 
-  module _ (has : Bool) (hash : Bytes) where
-    pub other_block : (block_of c ≡ block → ⊥) → false ≡ revives (state_seen e.state e.block_hash e.taker) block (hash_of has hash)
-    other_block h = rw (s, block-seen c e.block_hash e.taker, ne_eqb (block_of c) block h)
-
-    module _ (b : block_of c ≡ block) where
-      pub any-hash : has ≡ false → true ≡ revives (state_seen e.state e.block_hash e.taker) block (hash_of has hash)
-      unfolding differs
-      any-hash h = rw (s, block-seen c e.block_hash e.taker, eq-eqb (block_of c) block b, h)
-
-      pub that-hash : has ≡ true → not (eq_bytes hash e.block_hash) ≡ revives (state_seen e.state e.block_hash e.taker) block (hash_of has hash)
-      unfolding differs
-      that-hash h = rw (s, block-seen c e.block_hash e.taker, eq-eqb (block_of c) block b, h, hash-seen c e.block_hash e.taker)
+    pub that-hash : (hash : Bytes) → not (eq_bytes hash e.block_hash) ≡ revives (state_seen e.state e.block_hash e.taker) block (Some hash)
+    unfolding differs
+    that-hash hash = rw (s, block-seen c e.block_hash e.taker, eq-eqb (block_of c) block b, hash-seen c e.block_hash e.taker)
 
 -- ---- a selection is its call's rule
 
 abbrev pub map_visit : {A B : Type 0} → (A → B) → Visit A → Visit B
 map_visit f v = record { stays = v.stays; drops = v.drops; lists = map f v.lists }
 
-module _ (s : Selection) (g : Option Guard) (e : Entry) where
-  pub evict-selects : s.by ≡ OfSender → only_of s.sender evict_rule g e ≡ map_visit (λ x. x.frame) (select_rule s e)
+module _ (g : Option Guard) (e : Entry) where
+  pub evict-selects : (a : Bytes) → only_of a evict_rule g e ≡ map_visit (λ x. x.frame) (select_rule (OfSender a) e)
   unfolding only_of evict_rule stay leave
-  evict-selects b = rw b (go (eq_bytes e.frame.from s.sender))
+  evict-selects a = go (eq_bytes e.frame.from a)
     where
-      go : (t : Bool) → cond t (leave (e.frame ∷ [])) (stay e.standing []) ≡ map_visit (λ x. x.frame) (cond t (taken OfSender e) (stay e.standing []))
+      go : (t : Bool) → cond t (leave (e.frame ∷ [])) (stay e.standing []) ≡ map_visit (λ x. x.frame) (cond t (taken (OfSender a) e) (stay e.standing []))
       go true = refl
       go false = refl
 
-  pub reorg-selects : s.by ≡ Reorganised → reorg_rule s.block (hash_of s.has_hash s.hash) g e ≡ map_visit (λ x. x.frame) (select_rule s e)
+  pub reorg-selects : (block : ℕ) (hash : Option Bytes) → reorg_rule block hash g e ≡ map_visit (λ x. x.frame) (select_rule (Reorganised block hash) e)
   unfolding reorg_rule reorg_in stay
-  reorg-selects b = rw b (go e.standing.state)
+  reorg-selects block hash = go e.standing.state
     where
       by-test : (t : Bool) →
-          cond t (record { stays = some (record { state = tracked; held = e.standing.held }); drops = true; lists = e.frame ∷ [] }) (stay e.standing [])
-          ≡ map_visit (λ x. x.frame) (cond t (taken Reorganised e) (stay e.standing []))
+          cond t (record { stays = Some (record { state = tracked; held = e.standing.held }); drops = true; lists = e.frame ∷ [] }) (stay e.standing [])
+          ≡ map_visit (λ x. x.frame) (cond t (taken (Reorganised block hash) e) (stay e.standing []))
       by-test true = refl
       by-test false = refl
 
-      go : (st : State) → reorg_in st s.block (hash_of s.has_hash s.hash) e
-          ≡ map_visit (λ x. x.frame) (cond (revives st s.block (hash_of s.has_hash s.hash)) (taken Reorganised e) (stay e.standing []))
+      go : (st : State) → reorg_in st block hash e
+          ≡ map_visit (λ x. x.frame) (cond (revives st block hash) (taken (Reorganised block hash) e) (stay e.standing []))
       go tracked = refl
-      go (tentative c) = by-test (revives (tentative c) s.block (hash_of s.has_hash s.hash))
+      go (tentative c) = by-test (revives (tentative c) block hash)
 
-  pub final-selects : s.by ≡ Finalized → final_rule s.block g e ≡ map_visit dead_of (select_rule s e)
+  pub final-selects : (block : ℕ) → final_rule block g e ≡ map_visit dead_of (select_rule (Finalized block) e)
   unfolding final_rule final_in stay leave
-  final-selects b = rw b (go e.standing.state refl)
+  final-selects block = go e.standing.state refl
     where
-      go : (st : State) → e.standing.state ≡ st → final_in st s.block e ≡ map_visit dead_of (cond (ends st s.block) (taken Finalized e) (stay e.standing []))
+      go : (st : State) → e.standing.state ≡ st → final_in st block e ≡ map_visit dead_of (cond (ends st block) (taken (Finalized block) e) (stay e.standing []))
       go tracked q = refl
-      go (tentative c) q = by-test (leb c.block s.block)
+      go (tentative c) q = by-test (leb c.block block)
         where
           by-test : (t : Bool) → cond t (leave (record { frame = e.frame; consumed = c } ∷ [])) (stay e.standing [])
-              ≡ map_visit dead_of (cond t (taken Finalized e) (stay e.standing []))
+              ≡ map_visit dead_of (cond t (taken (Finalized block) e) (stay e.standing []))
           by-test true = rw q
           by-test false = refl
 
@@ -117,51 +109,53 @@ select-count s (e ∷ es) gs = go (selected s e) (λ gs'. select-count s es gs')
   where
     go : (t : Bool) → ((gs' : List Guard) → length (walk (λ g. select_rule s) es gs').listed ≡ length (keep (selected s) es)) →
         length
-        ((cond t (taken s.by e) (stay e.standing [])).lists
-        ++ (walk (λ g. select_rule s) es (cond (cond t (taken s.by e) (stay e.standing [])).drops (drop_guard e.frame.hash gs) gs)).listed)
+        ((cond t (taken s e) (stay e.standing [])).lists
+        ++ (walk (λ g. select_rule s) es (cond (cond t (taken s e) (stay e.standing [])).drops (drop_guard e.frame.hash gs) gs)).listed)
         ≡ length (cond t (e ∷ keep (selected s) es) (keep (selected s) es))
-    go true ih = rw length-append (omega (arith, ih (cond (taken s.by e).drops (drop_guard e.frame.hash gs) gs)))
+    go true ih = rw length-append (omega (arith, ih (cond (taken s e).drops (drop_guard e.frame.hash gs) gs)))
     go false ih = ih gs
 
 -- ---- what is written of an entry
 
-pub numbers-width : (by : Selecting) (e : Entry) → length (numbers_for by e) ≡ number_width by
+pub numbers-width : (s : Selection) (e : Entry) → length (numbers_for s e) ≡ number_width s
 unfolding ticket_numbers dead_numbers
-numbers-width OfSender e = refl
-numbers-width Reorganised e = refl
-numbers-width Finalized e = refl
+numbers-width (OfSender a) e = refl
+numbers-width (Reorganised block hash) e = refl
+numbers-width (Finalized block) e = refl
 
-bytes-width : (by : Selecting) (e : Entry) → length (consumed_in e.standing.state).block_hash ≡ 32 → length (taker_hash (consumed_in e.standing.state).kind) ≡ 32 →
-    length (bytes_for by e) ≡ byte_width by
+bytes-width : (s : Selection) (e : Entry) → length (consumed_in e.standing.state).block_hash ≡ 32 → length (taker_hash (consumed_in e.standing.state).kind) ≡ 32 →
+    length (bytes_for s e) ≡ byte_width s
 unfolding dead_bytes
-bytes-width OfSender e h t = refl
-bytes-width Reorganised e h t = refl
-bytes-width Finalized e h t = simp length-append (omega arith)
+bytes-width (OfSender a) e h t = refl
+bytes-width (Reorganised block hash) e h t = refl
+bytes-width (Finalized block) e h t = simp length-append (omega arith)
+
+-- any but finality
+pub not-final : (s : Selection) → ((block : ℕ) → s ≡ Finalized block → ⊥) → is_finality s ≡ false
+not-final (OfSender a) k = refl
+not-final (Reorganised block hash) k = refl
+not-final (Finalized block) k = absurd (k block refl)
 
 -- an eviction or a reorganisation writes a number, and no bytes
 one-short : (count numbers bytes : ℕ) → ltb numbers count ≡ (ltb numbers (1 * count) || ltb bytes (0 * count))
 one-short count numbers bytes = rw (one-mul, zero-mul, le-ltb bytes 0 (omega arith)) (sym (or-false (ltb numbers count)))
 
-pub short-of : (by : Selecting) → (by ≡ Finalized → ⊥) → (count numbers bytes : ℕ) →
-    ltb numbers count ≡ (ltb numbers (number_width by * count) || ltb bytes (byte_width by * count))
-short-of OfSender k count numbers bytes = one-short count numbers bytes
-short-of Reorganised k count numbers bytes = one-short count numbers bytes
-short-of Finalized k count numbers bytes = absurd (k refl)
+pub short-of : (s : Selection) → is_finality s ≡ false → (count numbers bytes : ℕ) →
+    ltb numbers count ≡ (ltb numbers (number_width s * count) || ltb bytes (byte_width s * count))
+short-of (OfSender a) k count numbers bytes = one-short count numbers bytes
+short-of (Reorganised block hash) k count numbers bytes = one-short count numbers bytes
+short-of (Finalized block) k count numbers bytes = absurd (true≢false k)
 
--- the entry is listed behind n others
-abbrev pub Lists : Selecting → Entry → ℕ → List ℕ → Bytes → List ℕ → Bytes → Type 0
-Lists by e n numbers bytes numbers' bytes' =
-    (numbers' ≡ written_at (number_width by * n) (numbers_for by e) numbers) × (bytes' ≡ written_at (byte_width by * n) (bytes_for by e) bytes)
-    × (length (bytes_for by e) ≡ byte_width by)
+-- the entry is listed after n others
+abbrev pub Lists : Selection → Entry → ℕ → List ℕ → Bytes → List ℕ → Bytes → Type 0
+Lists s e n numbers bytes numbers' bytes' =
+    (numbers' ≡ written_at (number_width s * n) (numbers_for s e) numbers) × (bytes' ≡ written_at (byte_width s * n) (bytes_for s e) bytes)
+    × (length (bytes_for s e) ≡ byte_width s)
 
-pub room_for : (by : Selecting) → (by ≡ Finalized → ⊥) → (n room : ℕ) → number_width by * n + number_width by ≤ room → n < room
-room_for OfSender k n room h = omega arith
-room_for Reorganised k n room h = omega arith
-room_for Finalized k n room h = absurd (k refl)
-
-pub final-room : (by : Selecting) (n m numbers bytes : ℕ) → by ≡ Finalized → number_width by * n + number_width by ≤ numbers → byte_width by * m + byte_width by ≤ bytes →
-    (3 * n + 3 ≤ numbers) × (64 * m + 64 ≤ bytes)
-final-room by n m numbers bytes f h b = (rw f at h, rw f at b)
+pub room_for : (s : Selection) → is_finality s ≡ false → (n room : ℕ) → number_width s * n + number_width s ≤ room → n < room
+room_for (OfSender a) k n room h = omega arith
+room_for (Reorganised block hash) k n room h = omega arith
+room_for (Finalized block) k n room h = absurd (true≢false k)
 
 -- an entry that is final is tentative
 pub never-final : (e : coded.Entry) → e.state ≡ Tracked → is_tentative (entry_of e).standing.state ≡ true → ⊥
@@ -169,24 +163,24 @@ never-final e s h =
     let f : is_tentative (entry_of e).standing.state ≡ false = rw s in
     false≢true (sym f ∙ h)
 
-pub ticket-listed : (by : Selecting) → (by ≡ Finalized → ⊥) → (e : Entry) (n : ℕ) (numbers : List ℕ) (bytes : Bytes) →
-    n < length numbers → Lists by e n numbers bytes (set numbers n e.frame.ticket) bytes
+pub ticket-listed : (s : Selection) → is_finality s ≡ false → (e : Entry) (n : ℕ) (numbers : List ℕ) (bytes : Bytes) →
+    n < length numbers → Lists s e n numbers bytes (set numbers n e.frame.ticket) bytes
 unfolding ticket_numbers
-ticket-listed OfSender k e n numbers bytes h = (rw one-mul (one_at numbers n e.frame.ticket h), rw zero-mul, refl)
-ticket-listed Reorganised k e n numbers bytes h = (rw one-mul (one_at numbers n e.frame.ticket h), rw zero-mul, refl)
-ticket-listed Finalized k e n numbers bytes h = absurd (k refl)
+ticket-listed (OfSender a) k e n numbers bytes h = (rw one-mul (one_at numbers n e.frame.ticket h), rw zero-mul, refl)
+ticket-listed (Reorganised block hash) k e n numbers bytes h = (rw one-mul (one_at numbers n e.frame.ticket h), rw zero-mul, refl)
+ticket-listed (Finalized block) k e n numbers bytes h = absurd (true≢false k)
 
 -- the entry's numbers and hashes, where it is final
-pub dead-listed : (e : coded.Entry) (c : NonceConsumed) → e.state ≡ Tentative c → (n : ℕ) (numbers : List ℕ) (bytes first second shown : Bytes) (block kind : ℕ) →
+pub dead-listed : (e : coded.Entry) (c : NonceConsumed) → e.state ≡ Tentative c → (limit n : ℕ) (numbers : List ℕ) (bytes first second shown : Bytes) (block kind : ℕ) →
     3 * n + 3 ≤ length numbers → 64 * n + 64 ≤ length bytes → block ≡ block_of c →
     kind ≡ kind_number (consumed_of c e.block_hash e.taker).kind → shown ≡ taker_hash (consumed_of c e.block_hash e.taker).kind →
     Puts (64 * n) e.block_hash bytes 32 first → Puts (64 * n + 32) shown first 32 second →
-    Lists Finalized (entry_of e) n numbers bytes (set (set (set numbers (3 * n) e.frame.ticket) (3 * n + 1) block) (3 * n + 2) kind) second
+    Lists (Finalized limit) (entry_of e) n numbers bytes (written_at (3 * n) (e.frame.ticket ∷ block ∷ kind ∷ []) numbers) second
 unfolding dead_numbers dead_bytes
-dead-listed e c s n numbers bytes first second shown block kind h b is_Block is-kind is-shown p q =
+dead-listed e c s limit n numbers bytes first second shown block kind h b is_Block is-kind is-shown p q =
     let at : 64 * n + 32 ≡ 64 * n + length e.block_hash = omega (arith, p.sized) in
     let room : 64 * n + length e.block_hash ≤ length bytes = omega (arith, p.sized) in (
-      rw (s, block-seen c e.block_hash e.taker, ← is_Block, ← is-kind) (three-at numbers (3 * n) e.frame.ticket block kind h),
+      rw (s, block-seen c e.block_hash e.taker, ← is_Block, ← is-kind),
       q.slice ∙ rw (at, p.slice, s, hash-seen c e.block_hash e.taker, ← is-shown) (at-behind (64 * n) e.block_hash shown bytes room),
-      bytes-width Finalized (entry_of e) (rw (s, hash-seen c e.block_hash e.taker) p.sized) (rw (s, ← is-shown) q.sized),
+      bytes-width (Finalized limit) (entry_of e) (rw (s, hash-seen c e.block_hash e.taker) p.sized) (rw (s, ← is-shown) q.sized),
     )

@@ -1,6 +1,6 @@
 -- What a poll decides of one entry, as the definitions see it: the entry's visit, and the row's form.
 use Rattle.std.specs.Prelude.{ℕ, Bool, true, false, not, List, [], ◌∷◌}
-use Rattle.std.proofs.Math.Option.{some}
+use Rattle.std.specs.Prelude.{Option, None, Some}
 use Rattle.lists.specs.Lists.{is_in}
 use Rattle.store_rules.specs.Frames.{Frame, Standing, Entry, Decision, rescue, nonce_consumed, still_waiting, Row, Visit}
 use Rattle.store_rules.specs.Poll.{predecessors, unknown, stay, leave}
@@ -9,8 +9,6 @@ use Rattle.decisions.specs.declared.rows.Telling.{Telling}
 use Rattle.decisions.specs.declared.rows.Telling.TheVariants.{Consumed, Hold, Waits, HeldBack, Rescued}
 use Rattle.decisions.specs.declared.rows.RowForm as coded
 use Rattle.decisions.specs.declared.rows.RowForm.TheVariants.{Long, Short}
-use Rattle.decisions.specs.declared.poll.Course.{Course}
-use Rattle.decisions.specs.declared.poll.Course.TheVariants.{Silent, Tells}
 
 abbrev pub form_of : coded.RowForm → RowForm
 form_of Long = long
@@ -42,10 +40,10 @@ is_listed Rescued known n = true
 abbrev pub row_of : Telling → ℕ → List ℕ → Frame → Row
 row_of t head known f = record { frame = f; decision = decision_of t; nonces = nonces_of t head known f }
 
--- the standing of an entry that stays behind its row: a degraded frame is held at this head
+-- the standing of an entry that stays after its row: a degraded frame is held at this head
 abbrev pub staying_as : Telling → ℕ → Standing → Standing
 staying_as Consumed head s = s
-staying_as Hold head s = record { state = s.state; held = some head }
+staying_as Hold head s = record { state = s.state; held = Some head }
 staying_as Waits head s = s
 staying_as HeldBack head s = s
 staying_as Rescued head s = s
@@ -58,6 +56,7 @@ visit_told Waits head known e = stay (staying_as Waits head e.standing) (row_of 
 visit_told HeldBack head known e = stay (staying_as HeldBack head e.standing) (row_of HeldBack head known e.frame ∷ [])
 visit_told Rescued head known e = leave (row_of Rescued head known e.frame ∷ [])
 
-abbrev pub visit_of : Course → ℕ → List ℕ → Entry → Visit Row
-visit_of Silent head known e = stay e.standing []
-visit_of (Tells t) head known e = visit_told t head known e
+-- what a row tells of the entry, if one does; else the entry stays as it is
+abbrev pub visit_of : Option Telling → ℕ → List ℕ → Entry → Visit Row
+visit_of None head known e = stay e.standing []
+visit_of (Some t) head known e = visit_told t head known e

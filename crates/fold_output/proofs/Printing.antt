@@ -1,11 +1,11 @@
 -- What is printed of a file, where the buffer holds one byte more than a journal may have.
-use Prim.Native.Nat.{ℕ, ◌*◌, ◌≤◌, ◌<◌}
+use Prim.Native.Nat.{ℕ, ◌*◌, ◌≤◌, ◌<◌, min}
 use native.Mathlib.Omega.{arith}
 use mathlib.Core.Path.{◌≡◌, refl, ap, sym, ◌∙◌}
 use mathlib.Core.Bool.{Bool, true, false, cond}
 use lib.Dec.{eqb, ltb}
 use lib.ListN.{length, take, replicate, length-take, length-replicate}
-use borrow.Author.Tests.{lt-ltb, le-ltb, ltb-true}
+use borrow.Author.Tests.{lt-ltb, le-ltb, ltb-true, ltb-false}
 use Rattle.lists.specs.Bytes.{Bytes}
 use Rattle.lists.specs.Lists.{collect, written}
 use Rattle.wire.specs.Numbers.{digits}
@@ -59,10 +59,10 @@ unfolding journal_line fold_of exported fold_into fold_journal room_for exported
 over journal h = rw (lt-ltb 65536 (length journal) h)
 
 -- so it is enough to fold what the buffer holds
-pub printed : (n : ℕ) (read : Bytes) → 65536 < length read → journal_line (take n read) ≡ fold_output n read
+pub printed : (n k : ℕ) (read : Bytes) → 65536 < length read → k ≡ min n (length read) → journal_line (take k read) ≡ fold_output n read
 unfolding fold_output
-printed n read long = go (ltb 65536 n) refl
+printed n k read long e = go (ltb 65536 n) refl
   where
-    go : (b : Bool) → ltb 65536 n ≡ b → journal_line (take n read) ≡ cond b (refusal_line 9 65536) (journal_line (take n read))
-    go true e = over (take n read) (rw (length-take n read) (omega (arith, ltb-true 65536 n e)))
-    go false e = refl
+    go : (b : Bool) → ltb 65536 n ≡ b → journal_line (take k read) ≡ cond b (refusal_line 9 65536) (journal_line (take n read))
+    go true t = over (take k read) (rw (length-take k read) (omega (arith, ltb-true 65536 n t)))
+    go false t = let same : k ≡ n = omega (arith, ltb-false 65536 n t) in ap (λ (j : ℕ). journal_line (take j read)) same

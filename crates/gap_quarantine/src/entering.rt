@@ -6,52 +6,46 @@ ghost use Rattle.gap_quarantine.specs.Promises.{EntersAlways};
 
 use super::Entered;
 use guards::drop_guard;
-use store_rules::{Entry, FrameState, Held, NonceConsumed, Search, clamped};
+use store_rules::{Entry, FrameState, Held, NonceConsumed, Whose, first_sought};
 
 // An entry as it is, but tentative.
 fn made_tentative(e: Entry, consumed: NonceConsumed, block_hash: [u8; 32], taker: [u8; 32]) -> Entry
     ensures { entry_of result ≡ enter_with (consumed_of consumed block_hash taker) (entry_of e) }
 {
-    let mut f = e.with_state(FrameState::Tentative(consumed));
-    f.block_hash = block_hash;
-    f.taker = taker;
-    f
+    Entry {
+        state: FrameState::Tentative(consumed),
+        block_hash,
+        taker,
+        ..e
+    }
 }
 
-// Makes the first tracked entry of a hash tentative, drops the hash's guard, and answers whose it is; not found if there is none.
+// Makes the first tracked entry of a hash tentative, drops the hash's guard, and returns whose the entry is, if there is one.
+fn enter(
+    h: &mut Held,
+    hash: [u8; 32],
+    consumed: NonceConsumed,
+    block_hash: [u8; 32],
+    taker: [u8; 32],
+) -> Option<Whose>
+    ensures { EntersAlways h.old hash (consumed_of consumed block_hash taker) (record { whose = result; store = h.new }) }
+{
+    let found = first_sought(h.frames(), hash, true)?;
+    h.entries[found.at] = made_tentative(h.entries[found.at], consumed, block_hash, taker);
+    drop_guard(&mut h.labels, h.guards, hash);
+    Some(found.whose)
+}
+
+// Makes the first tracked entry of a hash tentative, drops the hash's guard, and returns whose the entry is, if there is one.
 pub fn enter_tentative(
     mut h: Held,
     hash: [u8; 32],
     consumed: NonceConsumed,
     block_hash: [u8; 32],
     taker: [u8; 32],
-) -> Entered
+) -> Entered<Held>
     ensures { EntersAlways h hash (consumed_of consumed block_hash taker) result }
 {
-    let held = h.len;
-    let len = clamped(held);
-    let mut search = Search::new(len);
-    let mut i = len;
-    while 0 < i {
-        i -= 1;
-        let e = h.entries[i];
-        search = search.walk(i, e, hash, true);
-    }
-    let whose = search.whose;
-    if !whose.found {
-        return Entered {
-            whose: whose,
-            held: h,
-        };
-    }
-    let k = search.at;
-    let e = h.entries[k];
-    let f = made_tentative(e, consumed, block_hash, taker);
-    h.entries[k] = f;
-    let guards = h.guards;
-    drop_guard(&mut h.labels, guards, hash);
-    Entered {
-        whose: whose,
-        held: h,
-    }
+    let whose = enter(&mut h, hash, consumed, block_hash, taker);
+    Entered { whose, store: h }
 }

@@ -8,13 +8,12 @@
 // `Quarantine` are the same calls on the whole store as one value.
 #![tactic(auto)]
 
-ghost use Rattle.std.specs.Prelude.{◌≡◌, true, []};
-ghost use Rattle.std.proofs.Math.Option.{none};
+ghost use Rattle.std.specs.Prelude.{◌≡◌, [], None, Some};
 ghost use Rattle.store_rules.specs.Frames.{reparked, unhydratable};
 ghost use Rattle.store_rules.specs.Store.{empty, push, poll, short, guard, evict_sender, check_reorg, check_finalized};
-ghost use Rattle.store_rules.specs.View.{consumed_of, frame_of, kind_of, content_of, hash_of};
+ghost use Rattle.store_rules.specs.View.{consumed_of, frame_of};
 ghost use Rattle.answers.specs.Promises.{asked_sweep};
-ghost use Rattle.gap_quarantine.specs.Promises.{view_of, Performs, PerformsIn, SweepPerforms, Enters};
+ghost use Rattle.gap_quarantine.specs.Promises.{view_of, Performs, PerformsIn, SweepPerforms, Enters, joined};
 
 mod entering; // entering.rt: entering the tentative state
 mod parking; // parking.rt: push
@@ -24,50 +23,32 @@ mod recording; // recording.rt: the guard calls
 
 pub use answers::{Answer, Outcome};
 pub use entering::enter_tentative;
+pub use guards::GuardBodies;
 pub use parking::push;
 pub use passing::{check_finalized, check_reorg, evict_sender};
 pub use polls::{poll, poll_short, poll_short_with_content, poll_with_content, sweep};
 pub use queries::{
-    Boundary, HeldState, Listed, expected_boundary, has_guard_for_sender, is_empty, len,
-    pool_known_gap, senders, state, tentative_blocks, tentative_count,
+    Boundary, HeldState, expected_boundary, has_guard_for_sender, is_empty, len, pool_known_gap,
+    senders, state, tentative_blocks, tentative_count,
 };
 pub use recording::{record_repark_guard_with_content, record_unhydratable_guard_with_content};
-pub use short_rows::{FirstNonce, Nonces, first_nonce, nonces_of};
-pub use store_rules::{
-    Entry, FrameState, Held, HeldHead, NonceConsumed, ParkedFrame, RescueKind, Whose,
-};
+pub use short_rows::{Nonces, first_nonce, nonces_of};
+pub use store_rules::{Entry, FrameState, Held, NonceConsumed, ParkedFrame, RescueKind, Whose};
 
-// ---- answers
-
-// An answer, and the store after the call.
+// Whose the frame is that entered the tentative state, if one did, and the store after the call.
 #[derive(Clone, Copy)]
-pub struct Answered {
-    pub answer: Answer,
-    pub store: Quarantine,
-}
-
-// Whose the frame is that entered the tentative state, if one was found, and the held part after the call.
-#[derive(Clone, Copy)]
-pub struct Entered {
-    pub whose: Whose,
-    pub held: Held,
-}
-
-// The same, and the store after the call.
-#[derive(Clone, Copy)]
-pub struct EnteredStore {
-    pub whose: Whose,
-    pub store: Quarantine,
+pub struct Entered<S> {
+    pub whose: Option<Whose>,
+    pub store: S,
 }
 
 // ---- the store as one value
 
-// The held part, and the bodies of the guards: 20 numbers and 512 bytes a guard, in the places of the labels.
+// The held part, and the bodies of the guards, in the places of the labels.
 #[derive(Clone, Copy)]
 pub struct Quarantine {
     pub held: Held,
-    pub guard_numbers: [u64; 1280],
-    pub guard_contents: [u8; 32768],
+    pub bodies: GuardBodies,
 }
 
 impl Quarantine {
@@ -75,44 +56,49 @@ impl Quarantine {
     pub fn new() -> Quarantine
         ensures { view_of result ≡ empty }
     {
-        let held = Held::new();
         Quarantine {
-            held: held,
-            guard_numbers: [0u64; 1280],
-            guard_contents: [0u8; 32768],
+            held: Held::new(),
+            bodies: GuardBodies {
+                numbers: [0; 1280],
+                contents: [0; 32768],
+            },
         }
     }
 
-    // What a call on the held part makes of the store.
-    fn after(mut self, r: Outcome) -> Answered
-        ensures { result ≡ record { answer = r.answer; store = record { held = r.held; guard_numbers = self.guard_numbers; guard_contents = self.guard_contents } } }
+    // The outcome of a call on the held part as that of the same call on the whole store.
+    fn after(self, r: Outcome<Held>) -> Outcome<Quarantine>
+        ensures { result ≡ record { answer = r.answer; store = joined r.store self.bodies } }
     {
-        let held = r.held;
-        let answer = r.answer;
-        self.held = held;
-        Answered {
-            answer: answer,
-            store: self,
+        Outcome {
+            answer: r.answer,
+            store: Quarantine {
+                held: r.store,
+                ..self
+            },
         }
     }
 
-    // Parks a frame, and answers the total.
-    pub fn push(self, frame: ParkedFrame) -> Answered
+    // Parks a frame, and returns the total.
+    pub fn push(self, frame: ParkedFrame) -> Outcome<Quarantine>
         ensures { Performs self (push (frame_of frame)) [] [] result [] [] }
     {
-        let held = self.held;
-        self.after(push(held, frame))
+        self.after(push(self.held, frame))
     }
 
     // Polls a sender's frames at this head; the rows go to the slice.
-    pub fn poll(self, sender: [u8; 20], head: u64, known: &[u64], rows: &mut [u64]) -> Answered
-        ensures { Performs self (poll sender head known.now none) rows.old [] result rows.new [] }
+    pub fn poll(
+        self,
+        sender: [u8; 20],
+        head: u64,
+        known: &[u64],
+        rows: &mut [u64],
+    ) -> Outcome<Quarantine>
+        ensures { Performs self (poll sender head known.now None) rows.old [] result rows.new [] }
     {
-        let held = self.held;
-        self.after(poll(held, sender, head, known, rows))
+        self.after(poll(self.held, sender, head, known, rows))
     }
 
-    // The same with the current content: pairs of a nonce and a hash of 32 bytes.
+    // Polls with the current content: pairs of a nonce and a hash of 32 bytes.
     pub fn poll_with_content(
         self,
         sender: [u8; 20],
@@ -121,14 +107,20 @@ impl Quarantine {
         nonces: &[u64],
         hashes: &[u8],
         rows: &mut [u64],
-    ) -> Answered
-        ensures { Performs self (poll sender head known.now (content_of true nonces.now hashes.now)) rows.old [] result rows.new [] }
+    ) -> Outcome<Quarantine>
+        ensures { Performs self
+            (poll sender head known.now (Some (record { nonces = nonces.entry.now; hashes = hashes.now })))
+            rows.old [] result rows.new [] }
     {
-        let held = self.held;
-        let numbers = self.guard_numbers;
-        let contents = self.guard_contents;
         self.after(poll_with_content(
-            held, &numbers, &contents, sender, head, known, nonces, hashes, rows,
+            self.held,
+            &self.bodies,
+            sender,
+            head,
+            known,
+            nonces,
+            hashes,
+            rows,
         ))
     }
 
@@ -139,14 +131,13 @@ impl Quarantine {
         head: u64,
         known: &[u64],
         rows: &mut [u64],
-    ) -> Answered
-        ensures { PerformsIn short self (poll sender head known.now none) rows.old [] result rows.new [] }
+    ) -> Outcome<Quarantine>
+        ensures { PerformsIn short self (poll sender head known.now None) rows.old [] result rows.new [] }
     {
-        let held = self.held;
-        self.after(poll_short(held, sender, head, known, rows))
+        self.after(poll_short(self.held, sender, head, known, rows))
     }
 
-    // The same with the current content.
+    // Polls with the current content; short rows go to the slice.
     pub fn poll_short_with_content(
         self,
         sender: [u8; 20],
@@ -155,14 +146,20 @@ impl Quarantine {
         nonces: &[u64],
         hashes: &[u8],
         rows: &mut [u64],
-    ) -> Answered
-        ensures { PerformsIn short self (poll sender head known.now (content_of true nonces.now hashes.now)) rows.old [] result rows.new [] }
+    ) -> Outcome<Quarantine>
+        ensures { PerformsIn short self
+            (poll sender head known.now (Some (record { nonces = nonces.entry.now; hashes = hashes.now })))
+            rows.old [] result rows.new [] }
     {
-        let held = self.held;
-        let numbers = self.guard_numbers;
-        let contents = self.guard_contents;
         self.after(poll_short_with_content(
-            held, &numbers, &contents, sender, head, known, nonces, hashes, rows,
+            self.held,
+            &self.bodies,
+            sender,
+            head,
+            known,
+            nonces,
+            hashes,
+            rows,
         ))
     }
 
@@ -175,129 +172,106 @@ impl Quarantine {
         counts: &[u64],
         nonces: &[u64],
         rows: &mut [u64],
-    ) -> Answered
+    ) -> Outcome<Quarantine>
         ensures { SweepPerforms self
             (asked_sweep senders.now heads.now counts.now nonces.now rows.old)
             rows.old result rows.new }
     {
-        let held = self.held;
-        self.after(sweep(held, senders, heads, counts, nonces, rows))
-    }
-
-    // Records a guard of this kind.
-    fn record_guard(
-        self,
-        kind: RescueKind,
-        hash: [u8; 32],
-        preds: &[u64],
-        contents: &[u8],
-    ) -> Answered
-        ensures { Performs self
-            (guard (record { hash = hash; kind = kind_of kind; predecessors = preds.now; contents = contents.now }))
-            [] [] result [] [] }
-    {
-        let held = self.held;
-        let mut numbers = self.guard_numbers;
-        let mut bodies = self.guard_contents;
-        let r = recording::record_guard(
-            held,
-            &mut numbers,
-            &mut bodies,
-            kind,
-            hash,
-            preds,
-            contents,
-        );
-        let after = r.held;
-        let answer = r.answer;
-        Answered {
-            answer: answer,
-            store: Quarantine {
-                held: after,
-                guard_numbers: numbers,
-                guard_contents: bodies,
-            },
-        }
+        self.after(sweep(self.held, senders, heads, counts, nonces, rows))
     }
 
     // Records that a rescue of this hash with these predecessors and contents leads back to this boundary.
     pub fn record_repark_guard_with_content(
-        self,
+        mut self,
         hash: [u8; 32],
         preds: &[u64],
         contents: &[u8],
         boundary: u64,
-    ) -> Answered
+    ) -> Outcome<Quarantine>
         ensures { Performs self
             (guard (record { hash = hash; kind = reparked boundary; predecessors = preds.now; contents = contents.now }))
             [] [] result [] [] }
     {
-        self.record_guard(RescueKind::Reparked(boundary), hash, preds, contents)
+        let r = record_repark_guard_with_content(
+            self.held,
+            &mut self.bodies,
+            hash,
+            preds,
+            contents,
+            boundary,
+        );
+        self.after(r)
     }
 
     // Records that a rescue of this hash with these predecessors and contents cannot be rebuilt.
     pub fn record_unhydratable_guard_with_content(
-        self,
+        mut self,
         hash: [u8; 32],
         preds: &[u64],
         contents: &[u8],
-    ) -> Answered
+    ) -> Outcome<Quarantine>
         ensures { Performs self
             (guard (record { hash = hash; kind = unhydratable; predecessors = preds.now; contents = contents.now }))
             [] [] result [] [] }
     {
-        self.record_guard(RescueKind::Unhydratable, hash, preds, contents)
+        let r = record_unhydratable_guard_with_content(
+            self.held,
+            &mut self.bodies,
+            hash,
+            preds,
+            contents,
+        );
+        self.after(r)
     }
 
-    // Makes the first tracked entry of a hash tentative, drops the hash's guard, and answers whose it is; not found if there is
-    // none.
+    // Makes the first tracked entry of a hash tentative, drops the hash's guard, and returns whose the entry is, if there is one.
     pub fn enter_tentative(
-        mut self,
+        self,
         hash: [u8; 32],
         consumed: NonceConsumed,
         block_hash: [u8; 32],
         taker: [u8; 32],
-    ) -> EnteredStore
+    ) -> Entered<Quarantine>
         ensures { Enters self hash (consumed_of consumed block_hash taker) result }
     {
-        let held = self.held;
-        let r = enter_tentative(held, hash, consumed, block_hash, taker);
-        let after = r.held;
-        let whose = r.whose;
-        self.held = after;
-        EnteredStore {
-            whose: whose,
-            store: self,
+        let r = enter_tentative(self.held, hash, consumed, block_hash, taker);
+        Entered {
+            whose: r.whose,
+            store: Quarantine {
+                held: r.store,
+                ..self
+            },
         }
     }
 
     // Removes the entries of a sender, and lists their tickets.
-    pub fn evict_sender(self, sender: [u8; 20], tickets: &mut [u64]) -> Answered
+    pub fn evict_sender(self, sender: [u8; 20], tickets: &mut [u64]) -> Outcome<Quarantine>
         ensures { Performs self (evict_sender sender) tickets.old [] result tickets.new [] }
     {
-        let held = self.held;
-        self.after(evict_sender(held, sender, tickets))
+        self.after(evict_sender(self.held, sender, tickets))
     }
 
     // Makes the tentative entries of a reorganised block tracked again, and lists their tickets.
     pub fn check_reorg(
         self,
         block: u64,
-        has_hash: bool,
-        hash: [u8; 32],
+        hash: Option<[u8; 32]>,
         tickets: &mut [u64],
-    ) -> Answered
-        ensures { Performs self (check_reorg block (hash_of has_hash hash)) tickets.old [] result tickets.new [] }
+    ) -> Outcome<Quarantine>
+        ensures { Performs self (check_reorg block hash) tickets.old [] result tickets.new [] }
     {
-        let held = self.held;
-        self.after(check_reorg(held, block, has_hash, hash, tickets))
+        self.after(check_reorg(self.held, block, hash, tickets))
     }
 
     // Removes the tentative entries of blocks up to n, and lists ticket, block, kind, block hash and taker of each.
-    pub fn check_finalized(self, n: u64, numbers: &mut [u64], bytes: &mut [u8]) -> Answered
+    pub fn check_finalized(
+        self,
+        n: u64,
+        numbers: &mut [u64],
+        bytes: &mut [u8],
+    ) -> Outcome<Quarantine>
         ensures { Performs self (check_finalized n) numbers.old bytes.old result numbers.new bytes.new }
     {
-        let held = self.held;
-        self.after(check_finalized(held, n, numbers, bytes))
+        self.after(check_finalized(self.held, n, numbers, bytes))
     }
 }

@@ -1,7 +1,7 @@
-pub mod Sought
-pub mod FullRule
-pub mod Editing
-pub mod Stepping
 pub mod Bounds
+pub mod FullRule
 pub mod Going
+pub mod Putting
 pub mod Restoring
+pub mod Sought
+pub mod Stepping

@@ -21,8 +21,8 @@ no_label = label_of []
 pub labels_length : (b : Bytes) → length (labels_of b) ≡ 64
 labels_length b = length-map (chunks 33 64 b) label_of ∙ chunks-length 33 64 b
 
-label_at : (b : Bytes) (k : ℕ) → k < 64 → get_or (labels_of b) k no_label ≡ label_of (take 33 (drop (33 * k) b))
-label_at b k h = get_or-map label_of (chunks 33 64 b) k [] ∙ ap label_of (chunks-at 33 64 b k [] h)
+pub label-here : (b : Bytes) (k : ℕ) → k < 64 → get_or (labels_of b) k no_label ≡ label_of (take 33 (drop (33 * k) b))
+label-here b k h = get_or-map label_of (chunks 33 64 b) k [] ∙ ap label_of (chunks-at 33 64 b k [] h)
 
 module _ (b : Bytes) (k : ℕ) (h : k < 64) where
   hash_at : take 32 (take 33 (drop (33 * k) b)) ≡ take 32 (drop (33 * k) b)
@@ -32,7 +32,7 @@ module _ (b : Bytes) (k : ℕ) (h : k < 64) where
   pub label-seen : get_or (labels_of b) k no_label ≡ record { hash = take 32 (drop (33 * k) b); live = eqb (get_or b (33 * k + 32) 0) 1 }
   label-seen =
       let e : get_or (take 33 (drop (33 * k) b)) 32 0 ≡ get_or b (33 * k + 32) 0 = get_or-take 33 (drop (33 * k) b) 32 0 (omega arith) ∙ get_or-drop (33 * k) b 32 0 in
-      label_at b k h ∙ λ t. record { hash = hash_at t; live = eqb (e t) 1 }
+      label-here b k h ∙ λ t. record { hash = hash_at t; live = eqb (e t) 1 }
 
   module _ (sized : length b ≡ 2112) where
     room : 33 * k + 33 ≤ length b
@@ -65,4 +65,4 @@ module _ (b : Bytes) (k : ℕ) (h : k < 64) where
 
     -- by the label in another place
     pub label-moved : (i : ℕ) → i < 64 → labels_of (written_at (33 * k) (take 33 (drop (33 * i) b)) b) ≡ set (labels_of b) k (get_or (labels_of b) i no_label)
-    label-moved i m = label-written (take 33 (drop (33 * i) b)) (part_length 33 i b (omega arith)) ∙ ap (set (labels_of b) k) (sym (label_at b i m))
+    label-moved i m = label-written (take 33 (drop (33 * i) b)) (part_length 33 i b (omega arith)) ∙ ap (set (labels_of b) k) (sym (label-here b i m))

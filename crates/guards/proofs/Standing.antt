@@ -3,7 +3,7 @@ use Prim.Native.Nat.{ℕ, zero, suc, ◌≤◌, ◌<◌}
 use native.Mathlib.Omega.{arith}
 use mathlib.Core.Path.{◌≡◌, refl, ap, ◌∙◌}
 use mathlib.Core.Bool.{Bool, true, false, ◌&&◌, not, cond}
-use mathlib.Core.Option.{none, some}
+use Rattle.std.specs.Prelude.{None, Some}
 use mathlib.Core.List.{List, [], ◌∷◌, ◌++◌, map}
 use lib.ListN.{length, take, set}
 use Rattle.lists.specs.Bytes.{Bytes, eq_bytes}
@@ -22,29 +22,29 @@ rest bodies k = bodies (suc k)
 -- ---- what is found
 
 module _ (h : Bytes) where
-  pub none_found : (ls : List GuardLabel) (bodies : Bodies) → length ls ≤ label_at h ls → guard_of h (live_of ls bodies) ≡ none
+  pub none_found : (ls : List GuardLabel) (bodies : Bodies) → length ls ≤ label_at h ls → guard_of h (live_of ls bodies) ≡ None
   unfolding guard_of live_of label_at
   none_found [] bodies b = refl
   none_found (l ∷ ls) bodies b = go l.live (eq_bytes l.hash h) refl b (none_found ls (rest bodies))
     where
       go : (a t : Bool) → eq_bytes l.hash h ≡ t → suc (length ls) ≤ cond (a && t) zero (suc (label_at h ls)) →
-          (length ls ≤ label_at h ls → guard_of h (live_of ls (rest bodies)) ≡ none) →
-          guard_of h (cond a (guard_seen l.hash (bodies 0) ∷ live_of ls (rest bodies)) (live_of ls (rest bodies))) ≡ none
+          (length ls ≤ label_at h ls → guard_of h (live_of ls (rest bodies)) ≡ None) →
+          guard_of h (cond a (guard_seen l.hash (bodies 0) ∷ live_of ls (rest bodies)) (live_of ls (rest bodies))) ≡ None
       go true true e b ih = absurd (omega arith)
       go true false e b ih = rw e (ih (omega arith))
       go false t e b ih = ih (omega arith)
 
   -- the guard that is found has the hash that is looked for
-  pub one_found : (ls : List GuardLabel) (bodies : Bodies) → label_at h ls < length ls → guard_of h (live_of ls bodies) ≡ some (guard_seen h (bodies (label_at h ls)))
+  pub one_found : (ls : List GuardLabel) (bodies : Bodies) → label_at h ls < length ls → guard_of h (live_of ls bodies) ≡ Some (guard_seen h (bodies (label_at h ls)))
   unfolding guard_of live_of label_at
   one_found [] bodies b = absurd (omega arith)
   one_found (l ∷ ls) bodies b = go l.live (eq_bytes l.hash h) refl b (one_found ls (rest bodies))
     where
       go : (a t : Bool) → eq_bytes l.hash h ≡ t → cond (a && t) zero (suc (label_at h ls)) < suc (length ls) →
-          (label_at h ls < length ls → guard_of h (live_of ls (rest bodies)) ≡ some (guard_seen h (bodies (suc (label_at h ls))))) →
+          (label_at h ls < length ls → guard_of h (live_of ls (rest bodies)) ≡ Some (guard_seen h (bodies (suc (label_at h ls))))) →
           guard_of h (cond a (guard_seen l.hash (bodies 0) ∷ live_of ls (rest bodies)) (live_of ls (rest bodies)))
-          ≡ some (guard_seen h (bodies (cond (a && t) zero (suc (label_at h ls)))))
-      go true true e b ih = rw e (ap (λ x. some (guard_seen x (bodies 0))) (eq_bytes-true l.hash h e))
+          ≡ Some (guard_seen h (bodies (cond (a && t) zero (suc (label_at h ls)))))
+      go true true e b ih = rw e (ap (λ x. Some (guard_seen x (bodies 0))) (eq_bytes-true l.hash h e))
       go true false e b ih = rw e (ih (omega arith))
       go false t e b ih = ih (omega arith)
 

@@ -13,12 +13,12 @@ use Rattle.lists.specs.Bytes.{Bytes, eq_bytes}
 use Rattle.lists.specs.Lists.{written_at}
 use Rattle.lists.proofs.Compacting.{clamp}
 use Rattle.store_rules.specs.Store.{drop_guard}
-use Rattle.store_rules.specs.View.{GuardLabel, Bodies, guard_seen, labels_of, bodies_of, live_of}
+use Rattle.store_rules.specs.View.{GuardLabel, Bodies, guard_seen, label_of, labels_of, live_of}
 use Rattle.guards.specs.Labels.{is_live, label_at}
 use Rattle.guards.specs.Moving.{live_count, BodyPut}
-use Rattle.guards.specs.Recording.{standing}
-use Rattle.guards.proofs.Bodies.{body-moved}
-use Rattle.guards.proofs.Labels.{no_label, labels_length, label-seen, label-cleared, label-moved}
+use Rattle.guards.specs.Recording.{standing, bodies_in}
+use Rattle.guards.specs.declared.bodies.GuardBodies.{GuardBodies}
+use Rattle.guards.proofs.Labels.{no_label, labels_length, label-here, label-seen, label-cleared, label-moved}
 use Rattle.guards.proofs.Standing.{dropped, dropped-live, live_more}
 
 -- a count past the last label is as good as 64
@@ -38,25 +38,33 @@ nothing_left ls len i h =
 
 -- ---- searching
 
-module _ (h : Bytes) (len : ℕ) (b : Bytes) (i : ℕ) (more : i < len) (fits : len ≤ 64) where
-  by_first : (t : Bool) → is_live h (record { hash = take 32 (drop (33 * i) b); live = eqb (get_or b (33 * i + 32) 0) 1 }) ≡ t →
-      label_at h (drop i (take len (labels_of b))) ≡ cond t 0 (suc (label_at h (drop (i + 1) (take len (labels_of b)))))
+-- the place is the number of labels that were walked and the place among the rest
+abbrev pub Searching : Bytes → ℕ → Bytes → ℕ → Type 0
+Searching h guards b i = label_at h (take guards (labels_of b)) ≡ i + label_at h (drop i (take (min guards 64) (labels_of b)))
+
+pub search_start : (h : Bytes) (guards : ℕ) (b : Bytes) → Searching h guards b 0
+search_start h guards b = ap (label_at h) (sym (all-labels guards (min guards 64) b refl)) ∙ omega arith
+
+module _ (h : Bytes) (guards : ℕ) (b : Bytes) (i : ℕ) (t : Searching h guards b i) where
+  size : length (take guards (labels_of b)) ≡ min guards 64
+  size = simp length-take (omega (arith, labels_length b))
+
+  module _ (more : i < min guards 64) where
+    by_first : (a : Bool) → is_live h (label_of (take 33 (drop (33 * i) b))) ≡ a →
+        label_at h (drop i (take (min guards 64) (labels_of b))) ≡ cond a 0 (suc (label_at h (drop (i + 1) (take (min guards 64) (labels_of b)))))
+    unfolding label_at
+    by_first a e = rw (left (labels_of b) (min guards 64) i more (omega (arith, labels_length b)), label-here b i (omega arith), e)
+
+    pub found : is_live h (label_of (take 33 (drop (33 * i) b))) ≡ true →
+        (label_at h (take guards (labels_of b)) < length (take guards (labels_of b))) × (i ≡ label_at h (take guards (labels_of b)))
+    found e = let f = by_first true e in (omega (arith, t, size), omega (arith, t))
+
+    pub passed_over : is_live h (label_of (take 33 (drop (33 * i) b))) ≡ false → Searching h guards b (i + 1)
+    passed_over e = let f = by_first false e in omega (arith, t)
+
+  pub none_left : min guards 64 ≤ i → label_at h (take guards (labels_of b)) < length (take guards (labels_of b)) → ⊥
   unfolding label_at
-  by_first t e = rw (left (labels_of b) len i more (omega (arith, labels_length b)), label-seen b i (omega arith), e)
-
-  pub found : get_or b (33 * i + 32) 0 ≡ 1 → eq_bytes (take 32 (drop (33 * i) b)) h ≡ true → label_at h (drop i (take len (labels_of b))) ≡ 0
-  found l e = by_first true (rw (eq-eqb (get_or b (33 * i + 32) 0) 1 l, e))
-
-  pub other-hash : get_or b (33 * i + 32) 0 ≡ 1 → eq_bytes (take 32 (drop (33 * i) b)) h ≡ false →
-      label_at h (drop i (take len (labels_of b))) ≡ suc (label_at h (drop (i + 1) (take len (labels_of b))))
-  other-hash l e = by_first false (rw (eq-eqb (get_or b (33 * i + 32) 0) 1 l, e))
-
-  pub fallen : (get_or b (33 * i + 32) 0 ≡ 1 → ⊥) → label_at h (drop i (take len (labels_of b))) ≡ suc (label_at h (drop (i + 1) (take len (labels_of b))))
-  fallen n = by_first false (rw (ne_eqb (get_or b (33 * i + 32) 0) 1 n))
-
-pub none_left : (h : Bytes) (len : ℕ) (b : Bytes) (i : ℕ) → len ≤ i → label_at h (drop i (take len (labels_of b))) ≡ 0
-unfolding label_at
-none_left h len b i m = rw (nothing_left (labels_of b) len i m)
+  none_left m less = let n = nothing_left (labels_of b) (min guards 64) i m in omega (arith, size, less, rw n at t)
 
 -- ---- counting
 
@@ -192,21 +200,20 @@ module _ (len : ℕ) (ls₀ : List GuardLabel) (bodies₀ : Bodies) (ls : List G
         so_far = rw (one, same) ((λ s. (live_of (take w ls) bodies ++ (guard_seen h (bodies i) ∷ [])) ++ live_of (drop (i + 1) (take len ls)) (λ k. far k s)) ∙ rw (append_assoc (live_of (take w ls) bodies)) old);
       }
 
-module _ (len : ℕ) (b₀ : Bytes) (bodies₀ : Bodies) (b : Bytes) (numbers : List ℕ) (contents : Bytes) (w i : ℕ)
-    (more : i < len) (fits : len ≤ 64) (t : Moving len (labels_of b₀) bodies₀ (labels_of b) (bodies_of numbers contents) w i) where
+module _ (len : ℕ) (b₀ : Bytes) (bodies₀ : Bodies) (b : Bytes) (bodies : GuardBodies) (w i : ℕ)
+    (more : i < len) (fits : len ≤ 64) (t : Moving len (labels_of b₀) bodies₀ (labels_of b) (bodies_in bodies) w i) where
   all_there : len ≤ length (labels_of b)
   all_there = omega (arith, labels_length b)
 
-  pub guard-gone : (get_or b (33 * i + 32) 0 ≡ 1 → ⊥) → Moving len (labels_of b₀) bodies₀ (labels_of b) (bodies_of numbers contents) w (i + 1)
+  pub guard-gone : (get_or b (33 * i + 32) 0 ≡ 1 → ⊥) → Moving len (labels_of b₀) bodies₀ (labels_of b) (bodies_in bodies) w (i + 1)
   guard-gone n =
-      one-gone len (labels_of b₀) bodies₀ (labels_of b) (bodies_of numbers contents) w i more all_there t (rw (label-seen b i (omega arith)) (ne_eqb (get_or b (33 * i + 32) 0) 1 n))
+      one-gone len (labels_of b₀) bodies₀ (labels_of b) (bodies_in bodies) w i more all_there t (rw (label-seen b i (omega arith)) (ne_eqb (get_or b (33 * i + 32) 0) 1 n))
 
-  pub guard-moved : length b ≡ 2112 → length numbers ≡ 1280 → length contents ≡ 32768 → get_or b (33 * i + 32) 0 ≡ 1 →
-      Moving len (labels_of b₀) bodies₀ (labels_of (written_at (33 * w) (take 33 (drop (33 * i) b)) b))
-      (bodies_of (written_at (20 * w) (take 20 (drop (20 * i) numbers)) numbers) (written_at (512 * w) (take 512 (drop (512 * i) contents)) contents)) (w + 1) (i + 1)
-  guard-moved labelled numbered sized l =
+  pub guard-moved : length b ≡ 2112 → get_or b (33 * i + 32) 0 ≡ 1 → (bodies' : GuardBodies) → BodyPut w (bodies_in bodies i) (bodies_in bodies) (bodies_in bodies') →
+      Moving len (labels_of b₀) bodies₀ (labels_of (written_at (33 * w) (take 33 (drop (33 * i) b)) b)) (bodies_in bodies') (w + 1) (i + 1)
+  guard-moved labelled l bodies' put =
       rw (label-moved b w (omega (arith, t.behind)) labelled i (omega arith))
-      (one-moved len (labels_of b₀) bodies₀ (labels_of b) (bodies_of numbers contents) w i more all_there t _ (body-moved numbers contents w numbered sized (omega (arith, t.behind)) i (omega arith)) (rw (label-seen b i (omega arith)) (eq-eqb (get_or b (33 * i + 32) 0) 1 l)))
+      (one-moved len (labels_of b₀) bodies₀ (labels_of b) (bodies_in bodies) w i more all_there t (bodies_in bodies') put (rw (label-seen b i (omega arith)) (eq-eqb (get_or b (33 * i + 32) 0) 1 l)))
 
 pub all_moved : (len : ℕ) (ls₀ : List GuardLabel) (bodies₀ : Bodies) (ls : List GuardLabel) (bodies : Bodies) (w i : ℕ) → len ≤ i → Moving len ls₀ bodies₀ ls bodies w i →
     (w ≡ live_count (take len ls₀)) × (live_of (take w ls) bodies ≡ live_of (take len ls₀) bodies₀)

@@ -1,14 +1,13 @@
 -- The arguments of the exported writers, and what these return, way by way.
-use Prim.Native.Nat.{ℕ, ◌+◌, ◌-◌, ◌≤◌}
+use Prim.Native.Nat.{ℕ, ◌≤◌}
 use native.Mathlib.Omega.{arith}
 use mathlib.Core.Path.{◌≡◌, refl, sym, ap, ◌∙◌, subst}
 use mathlib.Core.Bool.{Bool, true, false, cond}
-use mathlib.Core.List.{List, [], ◌∷◌, ◌++◌, append-nil}
-use mathlib.Core.Option.{none, some}
+use mathlib.Core.List.{List, [], ◌∷◌}
+use Rattle.std.specs.Prelude.{None, Some}
 use borrow.Author.Tests.{eqb-true}
 use lib.Dec.{eqb, ltb}
-use lib.ListN.{length, take, drop, replicate}
-use lib.Seq.{paste, take-length, take-append_seam}
+use lib.ListN.{length}
 use Rattle.lists.specs.Bytes.{Bytes}
 use Rattle.lists.specs.Lists.{every, is_empty, written}
 use Rattle.layout.specs.Layout.{size}
@@ -42,20 +41,13 @@ module _ (w : ℕ) (bs : Bytes) where
     unfolding optional
     optional-long h = eqb-true (length bs) w (rw (not-empty bs there) at h)
 
-pub given-none : (bs : Bytes) → length bs ≡ 0 → none ≡ given bs
+pub given-none : (bs : Bytes) → length bs ≡ 0 → None ≡ given bs
 unfolding given
 given-none bs h = rw (is-empty bs h)
 
-pub given-some : (bs : Bytes) → (length bs ≡ 0 → ⊥) → some bs ≡ given bs
+pub given-some : (bs : Bytes) → (length bs ≡ 0 → ⊥) → Some bs ≡ given bs
 unfolding given
 given-some bs h = rw (not-empty bs h)
-
--- ---- a text
-
-pub text-given : (bs d : Bytes) → length bs ≤ 66 → d ≡ paste (replicate 66 0) 0 bs (length bs) → take (length bs) d ++ replicate (length bs - 66) 0 ≡ bs
-text-given bs d h e =
-    let z : length bs - 66 ≡ 0 = omega arith in
-    rw (e, z, take-length bs, take-append_seam bs (drop (0 + length bs) (replicate 66 0)), append-nil bs)
 
 -- ---- what the call returns
 

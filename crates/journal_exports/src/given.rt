@@ -1,55 +1,41 @@
 // The arguments of the exported writers: whether they stand for fields, and the typed values that they stand for.
-ghost use Rattle.std.specs.Prelude.{◌≡◌, true, [], ◌∷◌, ◌≤◌, leb, length};
+ghost use Rattle.std.specs.Prelude.{◌≡◌, true, [], ◌∷◌, ◌≤◌, eqb, leb, length};
 ghost use Rattle.lists.specs.Lists.{every};
 ghost use Rattle.layout.specs.Layout.{within};
-ghost use Rattle.journal_record.specs.View.{hash_seen, address_seen, number_seen, fidelity_seen, consumed_seen, tentative_seen};
+ghost use Rattle.journal_record.specs.View.{fidelity_seen, consumed_seen, tentative_seen};
 ghost use Rattle.journal_writer.specs.View.{text_given};
 ghost use Rattle.journal_exports.specs.Writers.{optional, given, given_number, given_fidelity, is_consumed, given_consumed, is_tentative, given_tentative};
 
-use journal_record::{
-    HashText, MaybeAddress, MaybeHash, MaybeNumber, MaybeTentative, NO_ADDRESS, NO_HASH,
-    NO_TENTATIVE, RecordFidelity, TentativeRecord,
-};
+use journal_record::{ConsumedKind, HashText, RecordFidelity, TentativeRecord};
 
 // ---- whether arguments stand for fields
 
-// No bytes, or so many.
+// No bytes, or `width` of them.
+#[tactic(auto, unfolding(crate::specs::Writers::optional))]
 pub(crate) fn is_optional(bytes: &[u8], width: usize) -> bool
     ensures { result ≡ optional width bytes.now }
 {
-    if bytes.len() == 0 {
-        return true;
-    }
-    bytes.len() == width
+    bytes.is_empty() || bytes.len() == width
 }
 
 // What consumed the nonce.
+#[tactic(auto, unfolding(crate::specs::Writers::is_consumed, lists::specs::Lists::every))]
 pub(crate) fn is_consumed(kind: u8, block_hash: &[u8], by: &[u8]) -> bool
     ensures { result ≡ is_consumed kind block_hash.now by.now }
 {
-    if kind == 0 {
-        return false;
-    }
-    if 2 < kind {
-        return false;
-    }
-    if block_hash.len() != 32 {
-        return false;
-    }
-    is_optional(by, 32)
+    (1..=2).contains(&kind) && block_hash.len() == 32 && is_optional(by, 32)
 }
 
-// The same, or nothing.
+// What consumed the nonce, or kind 0 for nothing.
+#[tactic(auto, unfolding(crate::specs::Writers::is_tentative))]
 pub(crate) fn is_tentative(kind: u8, block_hash: &[u8], by: &[u8]) -> bool
     ensures { result ≡ is_tentative kind block_hash.now by.now }
 {
-    if kind == 0 {
-        return true;
-    }
-    is_consumed(kind, block_hash, by)
+    kind == 0 || is_consumed(kind, block_hash, by)
 }
 
 // The arguments of a QP.
+#[tactic(auto, unfolding(lists::specs::Lists::every))]
 pub(crate) fn is_park(
     text: &[u8],
     from: &[u8],
@@ -61,22 +47,31 @@ pub(crate) fn is_park(
 ) -> bool
     ensures { result ≡ every (leb (length text.now) 66 ∷ optional 20 from.now ∷ optional 20 sender.now ∷ within 0 1 flags.now ∷ is_tentative kind block_hash.now by.now ∷ []) }
 {
-    if 66 < text.len() {
-        return false;
-    }
-    if !is_optional(from, 20) {
-        return false;
-    }
-    if !is_optional(sender, 20) {
-        return false;
-    }
-    if !layout::all_within(flags, 0, 1) {
-        return false;
-    }
-    is_tentative(kind, block_hash, by)
+    text.len() <= 66
+        && is_optional(from, 20)
+        && is_optional(sender, 20)
+        && layout::all_within(flags, 0, 1)
+        && is_tentative(kind, block_hash, by)
+}
+
+// The arguments of a QT.
+#[tactic(auto, unfolding(lists::specs::Lists::every))]
+pub(crate) fn is_entry(hash: &[u8], kind: u8, block_hash: &[u8], by: &[u8]) -> bool
+    ensures { result ≡ every (eqb (length hash.now) 32 ∷ is_consumed kind block_hash.now by.now ∷ []) }
+{
+    hash.len() == 32 && is_consumed(kind, block_hash, by)
+}
+
+// The arguments of a QR.
+#[tactic(auto, unfolding(lists::specs::Lists::every))]
+pub(crate) fn is_resolve(hash: &[u8], resolution: u8) -> bool
+    ensures { result ≡ every (eqb (length hash.now) 32 ∷ leb 1 resolution ∷ leb resolution 4 ∷ []) }
+{
+    hash.len() == 32 && (1..=4).contains(&resolution)
 }
 
 // The arguments of a QL.
+#[tactic(auto, unfolding(lists::specs::Lists::every))]
 pub(crate) fn is_legacy(
     frame_hash: &[u8],
     top_hash: &[u8],
@@ -89,70 +84,41 @@ pub(crate) fn is_legacy(
 ) -> bool
     ensures { result ≡ every (optional 32 frame_hash.now ∷ optional 32 top_hash.now ∷ optional 20 sender.now ∷ optional 20 from.now ∷ within 0 1 flags.now ∷ is_tentative kind block_hash.now by.now ∷ []) }
 {
-    if !is_optional(frame_hash, 32) {
-        return false;
-    }
-    if !is_optional(top_hash, 32) {
-        return false;
-    }
-    if !is_optional(sender, 20) {
-        return false;
-    }
-    if !is_optional(from, 20) {
-        return false;
-    }
-    if !layout::all_within(flags, 0, 1) {
-        return false;
-    }
-    is_tentative(kind, block_hash, by)
+    is_optional(frame_hash, 32)
+        && is_optional(top_hash, 32)
+        && is_optional(sender, 20)
+        && is_optional(from, 20)
+        && layout::all_within(flags, 0, 1)
+        && is_tentative(kind, block_hash, by)
 }
 
 // ---- the values of fields
 
-pub(crate) fn hash(bytes: &[u8]) -> [u8; 32]
-    requires { length bytes.now ≡ 32 }
+// A hash or an address.
+pub(crate) fn array<const N: usize>(bytes: &[u8]) -> [u8; N]
+    requires { length bytes.now ≡ N }
     ensures { result ≡ bytes.now }
 {
-    let mut hash = [0u8; 32];
-    wire::copy(bytes, 0, &mut hash);
-    hash
+    wire::array_at(bytes, 0)
 }
 
-pub(crate) fn maybe_hash(bytes: &[u8]) -> MaybeHash
-    requires { optional 32 bytes.now ≡ true }
-    ensures { hash_seen result ≡ given bytes.now }
+// A hash or an address that may be absent.
+pub(crate) fn optional<const N: usize>(bytes: &[u8]) -> Option<[u8; N]>
+    requires { optional N bytes.now ≡ true }
+    ensures { result ≡ given bytes.now }
 {
-    if bytes.len() == 0 {
-        return NO_HASH;
+    if bytes.is_empty() {
+        return None;
     }
-    MaybeHash {
-        present: true,
-        hash: hash(bytes),
-    }
+    Some(array(bytes))
 }
 
-pub(crate) fn maybe_address(bytes: &[u8]) -> MaybeAddress
-    requires { optional 20 bytes.now ≡ true }
-    ensures { address_seen result ≡ given bytes.now }
+// A number that may be absent, which C gives as a tag and a number.
+#[tactic(auto, unfolding(crate::specs::Writers::given_number))]
+pub(crate) fn number(tag: u8, number: u64) -> Option<u64>
+    ensures { result ≡ given_number tag number }
 {
-    if bytes.len() == 0 {
-        return NO_ADDRESS;
-    }
-    let mut address = [0u8; 20];
-    wire::copy(bytes, 0, &mut address);
-    MaybeAddress {
-        present: true,
-        address: address,
-    }
-}
-
-pub(crate) fn maybe_number(tag: u8, number: u64) -> MaybeNumber
-    ensures { number_seen result ≡ given_number tag number }
-{
-    MaybeNumber {
-        present: tag == 1,
-        number: number,
-    }
+    if tag == 1 { Some(number) } else { None }
 }
 
 pub(crate) fn text(bytes: &[u8]) -> HashText
@@ -167,13 +133,16 @@ pub(crate) fn text(bytes: &[u8]) -> HashText
     }
 }
 
+// A fidelity, which C gives as a byte.
+#[tactic(auto, unfolding(crate::specs::Writers::given_fidelity))]
 pub(crate) fn fidelity(byte: u8) -> RecordFidelity
     ensures { fidelity_seen result ≡ given_fidelity byte }
 {
     if byte == 1 {
-        return RecordFidelity::Degraded;
+        RecordFidelity::Degraded
+    } else {
+        RecordFidelity::Full
     }
-    RecordFidelity::Full
 }
 
 pub(crate) fn consumed(kind: u8, block: u64, block_hash: &[u8], by: &[u8]) -> TentativeRecord
@@ -181,22 +150,24 @@ pub(crate) fn consumed(kind: u8, block: u64, block_hash: &[u8], by: &[u8]) -> Te
     ensures { consumed_seen result ≡ given_consumed kind block block_hash.now by.now }
 {
     TentativeRecord {
-        kind: journal_record::kind_of(kind),
-        block: block,
-        block_hash: hash(block_hash),
-        by: maybe_hash(by),
+        kind: ConsumedKind::from(kind),
+        block,
+        block_hash: array(block_hash),
+        by: optional(by),
     }
 }
 
-pub(crate) fn tentative(kind: u8, block: u64, block_hash: &[u8], by: &[u8]) -> MaybeTentative
+pub(crate) fn tentative(
+    kind: u8,
+    block: u64,
+    block_hash: &[u8],
+    by: &[u8],
+) -> Option<TentativeRecord>
     requires { is_tentative kind block_hash.now by.now ≡ true }
     ensures { tentative_seen result ≡ given_tentative kind block block_hash.now by.now }
 {
     if kind == 0 {
-        return NO_TENTATIVE;
+        return None;
     }
-    MaybeTentative {
-        present: true,
-        record: consumed(kind, block, block_hash, by),
-    }
+    Some(consumed(kind, block, block_hash, by))
 }

@@ -5,7 +5,6 @@
 ghost use Rattle.std.specs.Prelude.{◌≡◌};
 ghost use Rattle.journal_exports.specs.Export.{exported, exported_frame};
 
-use gap_quarantine_journal::{FoldOutcome, RestoreAnswer};
 use journal_record::PARK_SIZE;
 use refusal::Refusal;
 
@@ -18,22 +17,19 @@ pub mod writers; // writers.rt: the exported writers
 pub fn gap_quarantine_fold(journal: &[u8], out: &mut [u8], totals: &mut [u8]) -> u64
     ensures { record { code = result; out = out.new; totals = totals.new } ≡ exported journal.now out.old totals.old }
 {
-    let f = gap_quarantine_journal::fold_journal(journal);
-    let end = f.end;
-    let outcome = f.outcome;
-    if let FoldOutcome::Refused(x) = outcome {
-        return output::code_of(x, end);
-    }
-    let set = f.pending;
-    let count = set.count;
-    if out.len() < PARK_SIZE * count {
-        return output::code_of(Refusal::ShortOutput, end);
+    let folded = match gap_quarantine_journal::fold_journal(journal) {
+        Ok(folded) => folded,
+        Err(refused) => return output::code_of(refused.refusal, refused.at),
+    };
+    let parks = folded.pending.as_slice();
+    if out.len() < PARK_SIZE * parks.len() {
+        return output::code_of(Refusal::ShortOutput, folded.end);
     }
     if totals.len() != 40 {
-        return output::code_of(Refusal::ShortOutput, end);
+        return output::code_of(Refusal::ShortOutput, folded.end);
     }
-    output::write_parks(set, out);
-    output::write_totals(totals, count as u64, f.totals, end as u64);
+    output::write_parks(parks, out);
+    output::write_totals(totals, parks.len() as u64, folded.totals, folded.end as u64);
     0
 }
 
@@ -42,14 +38,13 @@ pub fn gap_quarantine_fold(journal: &[u8], out: &mut [u8], totals: &mut [u8]) ->
 pub fn gap_quarantine_restore(bytes: &[u8], frame: &mut [u8]) -> u64
     ensures { record { code = result; frame = frame.new } ≡ exported_frame bytes.now frame.old }
 {
-    let r = gap_quarantine_journal::to_parked_frame(bytes);
-    let answer = r.answer;
-    if let RestoreAnswer::Refused(x) = answer {
-        return refusal::number(x);
-    }
+    let restored = match gap_quarantine_journal::to_parked_frame(bytes) {
+        Ok(restored) => restored,
+        Err(refusal) => return refusal::number(refusal),
+    };
     if frame.len() != 92 {
         return refusal::number(Refusal::ShortOutput);
     }
-    output::write_frame(frame, r.frame);
+    output::write_frame(frame, restored);
     0
 }

@@ -1,34 +1,27 @@
 // What the exported functions write: the pending records, the totals, and a frame, as bytes.
-ghost use Rattle.std.specs.Prelude.{◌≡◌, [], ◌∷◌, ◌+◌, ◌*◌, ◌≤◌, length};
+ghost use Rattle.std.specs.Prelude.{◌≡◌, [], ◌∷◌, ◌+◌, ◌*◌, ◌≤◌, map, length};
 ghost use Rattle.lists.specs.Lists.{collect, written};
 ghost use Rattle.wire.specs.Numbers.{digits};
 ghost use Rattle.refusal.specs.Numbers.{refusal_number};
 ghost use Rattle.store_rules.specs.View.{frame_of};
 ghost use Rattle.gap_quarantine_journal.specs.Fold.{output};
-ghost use Rattle.gap_quarantine_journal.specs.View.{parks_seen};
+ghost use Rattle.journal_record.specs.View.{park_seen};
 ghost use Rattle.journal_exports.specs.Export.{frame_bytes};
 ghost use Rattle.journal_exports.specs.Writers.{Short, code_of};
 ghost use Rattle.journal_writer.specs.View.{answer_seen};
 
-use gap_quarantine_journal::PendingSet;
-use journal_record::PARK_SIZE;
-use journal_writer::WriteAnswer;
+use journal_record::{PARK_SIZE, ParkRecord};
 use refusal::Refusal;
 use store_rules::ParkedFrame;
 use totals::Totals;
 
 // Writes the pending records, 240 bytes each.
-pub(crate) fn write_parks(set: PendingSet, out: &mut [u8])
-    requires { (set.count ≤ 64) × (240 * set.count ≤ length out.old) }
-    ensures { out.new ≡ written (output (parks_seen set)) out.old }
+pub(crate) fn write_parks(parks: &[ParkRecord], out: &mut [u8])
+    requires { 240 * length parks.now ≤ length out.old }
+    ensures { out.new ≡ written (output (map park_seen parks.now)) out.old }
 {
-    let count = set.count;
-    let mut i = 0;
-    while i < count {
-        let park = set.parks[i];
-        let bytes = journal_writer::park_bytes(park);
-        wire::put_bytes(out, PARK_SIZE * i, &bytes);
-        i += 1;
+    for (i, park) in parks.iter().enumerate() {
+        wire::put_bytes(out, PARK_SIZE * i, &journal_writer::park_bytes(*park));
     }
 }
 
@@ -49,10 +42,8 @@ pub(crate) fn write_frame(out: &mut [u8], f: ParkedFrame)
     requires { length out.old ≡ 92 }
     ensures { out.new ≡ frame_bytes (frame_of f) }
 {
-    let hash = f.hash;
-    let from = f.from;
-    wire::put_bytes(out, 0, &hash);
-    wire::put_bytes(out, 32, &from);
+    wire::put_bytes(out, 0, &f.hash);
+    wire::put_bytes(out, 32, &f.from);
     wire::put_number(out, 52, 8, f.expected);
     wire::put_number(out, 60, 8, f.claim);
     wire::put_number(out, 68, 8, f.chain_id);
@@ -65,17 +56,17 @@ pub(crate) fn code_of(refusal: Refusal, at: usize) -> u64
     requires { at ≤ 65536 }
     ensures { result ≡ refusal_number refusal + 256 * at }
 {
-    let n = refusal::number(refusal);
-    n + 256 * at as u64
+    refusal::number(refusal) + 256 * at as u64
 }
 
 // The length of a record that was written, 256 times, or a refusal's number.
-pub(crate) fn code_of_answer(answer: WriteAnswer) -> u64
+#[tactic(auto, unfolding(crate::specs::Writers::code_of))]
+pub(crate) fn code_of_answer(answer: Result<usize, Refusal>) -> u64
     requires { Short (answer_seen answer) }
     ensures { result ≡ code_of (answer_seen answer) }
 {
     match answer {
-        WriteAnswer::Written(n) => 256 * n as u64,
-        WriteAnswer::Refused(x) => refusal::number(x),
+        Ok(n) => 256 * n as u64,
+        Err(x) => refusal::number(x),
     }
 }

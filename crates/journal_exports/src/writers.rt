@@ -8,7 +8,9 @@ ghost use Rattle.std.specs.Prelude.{◌≡◌};
 ghost use Rattle.journal_exports.specs.Writers.{exported_park, exported_entry, exported_resolve, exported_legacy, exported_other};
 
 use super::{given, output};
-use journal_record::{LegacyParkRecord, ParkRecord, ResolveRecord, TentativeEntryRecord};
+use journal_record::{
+    LegacyParkRecord, ParkRecord, Resolution, ResolveRecord, TentativeEntryRecord,
+};
 use refusal::Refusal;
 
 // Writes a QP.
@@ -39,20 +41,20 @@ pub fn gap_quarantine_write_park(
         return refusal::number(Refusal::BadRecord);
     }
     let p = ParkRecord {
-        version: version,
+        version,
         text: given::text(text),
-        from: given::maybe_address(from),
-        sender: given::maybe_address(sender),
-        chain_id: chain_id,
-        gas: gas,
+        from: given::optional(from),
+        sender: given::optional(sender),
+        chain_id,
+        gas,
         wire: wire == 1,
         list: list == 1,
-        claimed_nonce: claimed_nonce,
-        expected_nonce: expected_nonce,
-        parked_at: parked_at,
+        claimed_nonce,
+        expected_nonce,
+        parked_at,
         fidelity: given::fidelity(fidelity),
         tentative: given::tentative(kind, block, block_hash, by),
-        ticket: ticket,
+        ticket,
     };
     output::code_of_answer(journal_writer::write_park(p, out))
 }
@@ -70,17 +72,14 @@ pub fn gap_quarantine_write_tentative(
 ) -> u64
     ensures { record { code = result; out = out.new } ≡ exported_entry version hash.now kind block block_hash.now by.now entered_at out.old }
 {
-    if hash.len() != 32 {
-        return refusal::number(Refusal::BadRecord);
-    }
-    if !given::is_consumed(kind, block_hash, by) {
+    if !given::is_entry(hash, kind, block_hash, by) {
         return refusal::number(Refusal::BadRecord);
     }
     let t = TentativeEntryRecord {
-        version: version,
-        hash: given::hash(hash),
+        version,
+        hash: given::array(hash),
         consumed: given::consumed(kind, block, block_hash, by),
-        entered_at: entered_at,
+        entered_at,
     };
     output::code_of_answer(journal_writer::write_tentative(t, out))
 }
@@ -95,20 +94,14 @@ pub fn gap_quarantine_write_resolve(
 ) -> u64
     ensures { record { code = result; out = out.new } ≡ exported_resolve version hash.now resolution resolved_at out.old }
 {
-    if hash.len() != 32 {
-        return refusal::number(Refusal::BadRecord);
-    }
-    if resolution == 0 {
-        return refusal::number(Refusal::BadRecord);
-    }
-    if 4 < resolution {
+    if !given::is_resolve(hash, resolution) {
         return refusal::number(Refusal::BadRecord);
     }
     let r = ResolveRecord {
-        version: version,
-        hash: given::hash(hash),
-        resolution: journal_record::resolution_of(resolution),
-        resolved_at: resolved_at,
+        version,
+        hash: given::array(hash),
+        resolution: Resolution::from(resolution),
+        resolved_at,
     };
     output::code_of_answer(journal_writer::write_resolve(r, out))
 }
@@ -159,20 +152,20 @@ pub fn gap_quarantine_write_legacy(
         return refusal::number(Refusal::BadRecord);
     }
     let l = LegacyParkRecord {
-        frame_hash: given::maybe_hash(frame_hash),
-        top_hash: given::maybe_hash(top_hash),
-        claimed_nonce: given::maybe_number(has_claimed, claimed_nonce),
-        frame_nonce: given::maybe_number(has_frame_nonce, frame_nonce),
-        top_nonce: given::maybe_number(has_top_nonce, top_nonce),
-        sender: given::maybe_address(sender),
-        from: given::maybe_address(from),
-        expected_nonce: given::maybe_number(has_expected, expected_nonce),
-        parked_at: given::maybe_number(has_parked_at, parked_at),
-        chain_id: given::maybe_number(has_chain_id, chain_id),
-        gas: given::maybe_number(has_gas, gas),
+        frame_hash: given::optional(frame_hash),
+        top_hash: given::optional(top_hash),
+        claimed_nonce: given::number(has_claimed, claimed_nonce),
+        frame_nonce: given::number(has_frame_nonce, frame_nonce),
+        top_nonce: given::number(has_top_nonce, top_nonce),
+        sender: given::optional(sender),
+        from: given::optional(from),
+        expected_nonce: given::number(has_expected, expected_nonce),
+        parked_at: given::number(has_parked_at, parked_at),
+        chain_id: given::number(has_chain_id, chain_id),
+        gas: given::number(has_gas, gas),
         rest: rest == 1,
         tentative: given::tentative(kind, block, block_hash, by),
-        ticket: ticket,
+        ticket,
     };
     output::code_of_answer(journal_writer::write_legacy(l, out))
 }

@@ -4,7 +4,7 @@ use native.Mathlib.Omega.{arith}
 use mathlib.Core.Path.{◌≡◌, refl, sym, ap, ◌∙◌}
 use mathlib.Core.Bool.{Bool, true, false, ◌&&◌, not, false≢true}
 use mathlib.Core.List.{List, [], ◌∷◌, ◌++◌, append_assoc, append-nil}
-use mathlib.Core.Option.{Option, none, some}
+use Rattle.std.specs.Prelude.{Option, None, Some}
 use lib.Dec.{eqb}
 use lib.ListN.{length, take, length-append}
 use lib.Seq.{take_at, drop_at}
@@ -39,7 +39,7 @@ mark : (p : Park) (rest : Bytes) → take 2 (park_bytes p ++ rest) ≡ park_mark
 unfolding bytes_of join fields_of park_fields
 mark p rest = refl
 
-park-form : form_of park_mark ≡ some park
+park-form : form_of park_mark ≡ Some park
 unfolding form_of eq_bytes
 park-form = refl
 
@@ -139,13 +139,13 @@ full-rule false b c d w l h = absurd (false≢true h)
 module _ (p : Park) (hash : Bytes) where
   full-restored : (o : Option Bytes) → is_non_zero o ≡ true → p.wire ≡ true → restore_full p hash o ≡ refused 16 → ⊥
   unfolding is_non_zero restore_full
-  full-restored none n w h = false≢true n
-  full-restored (some from) n w h = let z : ◌≡◌ {A = ℕ} 0 1 = cc (rw w at h) in omega arith
+  full-restored None n w h = false≢true n
+  full-restored (Some from) n w h = let z : ◌≡◌ {A = ℕ} 0 1 = cc (rw w at h) in omega arith
 
   degraded-restored : (o : Option Bytes) → restore_degraded p hash o ≡ refused 16 → ⊥
   unfolding restore_degraded
-  degraded-restored none h = let z : ◌≡◌ {A = ℕ} 15 16 = cc in omega arith
-  degraded-restored (some sender) h = let z : ◌≡◌ {A = ℕ} 0 1 = cc in omega arith
+  degraded-restored None h = let z : ◌≡◌ {A = ℕ} 15 16 = cc in omega arith
+  degraded-restored (Some sender) h = let z : ◌≡◌ {A = ℕ} 0 1 = cc in omega arith
 
   not-sixteen : (f : Fidelity) → settled_fidelity f p ≡ f → restore_as f p hash ≡ refused 16 → ⊥
   unfolding settled_fidelity is_full restore_as
@@ -159,8 +159,8 @@ unfolding restore_park restore_hash
 never-sixteen p s h = go (parse_hash p.text) h
   where
     go : (o : Option Bytes) → restore_hash o p ≡ refused 16 → ⊥
-    go none q = let z : ◌≡◌ {A = ℕ} 14 16 = cc in omega arith
-    go (some hash) q = not-sixteen p hash p.fidelity s.stable q
+    go None q = let z : ◌≡◌ {A = ℕ} 14 16 = cc in omega arith
+    go (Some hash) q = not-sixteen p hash p.fidelity s.stable q
 
 pub no-sixteen : NoSixteen
 no-sixteen journal room s end bytes h =

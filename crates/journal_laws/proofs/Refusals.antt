@@ -4,7 +4,7 @@ use native.Mathlib.Omega.{arith}
 use mathlib.Core.Path.{◌≡◌, refl, sym, ap, ◌∙◌, subst}
 use mathlib.Core.Bool.{Bool, true, false, ◌||◌, cond, false≢true}
 use mathlib.Core.List.{[], ◌∷◌}
-use mathlib.Core.Option.{Option, none, some}
+use Rattle.std.specs.Prelude.{Option, None, Some}
 use lib.Dec.{eqb, ltb}
 use lib.ListN.{length, drop, length-drop}
 use lib.Seq.{drop-drop}
@@ -140,8 +140,8 @@ codes journal out totals = go (fold_into journal (length out)) refl
 
 restore-full : (p : Park) (hash : Bytes) (o : Option Bytes) (n : ℕ) → restore_full p hash o ≡ restoring.refused n → 16 ≡ n
 unfolding restore_full
-restore-full p hash none n h = cc
-restore-full p hash (some from) n h = go p.wire h
+restore-full p hash None n h = cc
+restore-full p hash (Some from) n h = go p.wire h
   where
     go : (b : Bool) → cond b (restored (frame_of p hash from p.chain_id p.gas)) (restoring.refused 16) ≡ restoring.refused n → 16 ≡ n
     go true q = cc
@@ -149,8 +149,8 @@ restore-full p hash (some from) n h = go p.wire h
 
 restore-degraded : (p : Park) (hash : Bytes) (o : Option Bytes) (n : ℕ) → restore_degraded p hash o ≡ restoring.refused n → 15 ≡ n
 unfolding restore_degraded
-restore-degraded p hash none n h = cc
-restore-degraded p hash (some sender) n h = cc
+restore-degraded p hash None n h = cc
+restore-degraded p hash (Some sender) n h = cc
 
 pub restores : RestoreNumbers
 unfolding restore restore_park restore_hash restore_as is_in
@@ -161,8 +161,8 @@ restores bs n h = go (is_park bs) h
     by degraded p hash q = subst RestoreNumber (restore-degraded p hash p.sender n q) refl
 
     parsed : (o : Option Bytes) (p : Park) → restore_hash o p ≡ restoring.refused n → RestoreNumber n
-    parsed none p q = let e : 14 ≡ n = cc in subst RestoreNumber e refl
-    parsed (some hash) p q = by p.fidelity p hash q
+    parsed None p q = let e : 14 ≡ n = cc in subst RestoreNumber e refl
+    parsed (Some hash) p q = by p.fidelity p hash q
 
     go : (b : Bool) → cond b (restore_park (park_of bs)) (restoring.refused 11) ≡ restoring.refused n → RestoreNumber n
     go true q = parsed (parse_hash (park_of bs).text) (park_of bs) q

@@ -4,7 +4,7 @@ use native.Mathlib.Omega.{arith}
 use mathlib.Core.Path.{◌≡◌, refl, ap, ◌∙◌}
 use mathlib.Core.Bool.{Bool, true, false, cond}
 use mathlib.Core.List.{List}
-use mathlib.Core.Option.{Option, none, some}
+use Rattle.std.specs.Prelude.{Option, None, Some}
 use lib.Dec.{leb, ltb}
 use lib.ListN.{length, take, length-take}
 use lib.Seq.{take-take}
@@ -24,8 +24,8 @@ use Rattle.journal_laws.specs.Rewriting.{whole_form, form_at}
 -- a park record that the bytes of a record put
 pub data Puts (bs : Bytes) : Park → Type 0 where
   parked : accepted park bs ≡ true → Puts bs (settled (park_of bs))
-  moved : accepted legacy_park bs ≡ true → (hash : Bytes) (claimed : ℕ) → legacy_hash (legacy_of bs) ≡ some hash →
-      legacy_claimed (legacy_of bs) ≡ some claimed → Puts bs (migrated hash claimed (legacy_of bs))
+  moved : accepted legacy_park bs ≡ true → (hash : Bytes) (claimed : ℕ) → legacy_hash (legacy_of bs) ≡ Some hash →
+      legacy_claimed (legacy_of bs) ≡ Some claimed → Puts bs (migrated hash claimed (legacy_of bs))
 
 -- how the bytes of a record change the pending set
 pub data Change (bs : Bytes) (ps : List Park) : List Park → Type 0 where
@@ -62,9 +62,9 @@ applies legacy_park bs s h = go (legacy_hash (legacy_of bs)) (legacy_claimed (le
   where
     go : (o : Option Bytes) (n : Option ℕ) → legacy_hash (legacy_of bs) ≡ o → legacy_claimed (legacy_of bs) ≡ n →
         Whole legacy_park bs s (apply_legacy_as (size_of legacy_park) o n (legacy_of bs) s)
-    go none n p q = reads _ h same refl
-    go (some hash) none p q = reads _ h same refl
-    go (some hash) (some claimed) p q = keeps legacy_park bs s (migrated hash claimed (legacy_of bs)) _ h (moved h hash claimed p q)
+    go None n p q = reads _ h same refl
+    go (Some hash) None p q = reads _ h same refl
+    go (Some hash) (Some claimed) p q = keeps legacy_park bs s (migrated hash claimed (legacy_of bs)) _ h (moved h hash claimed p q)
 applies other bs s h = reads _ h same refl
 
 whole : (form : Form) (bs : Bytes) (s : Folded) → Whole form bs s (step_whole form bs s)
@@ -92,10 +92,10 @@ at-least-ten other = rw sizes.4 (omega arith)
 pub record Here (form : Form) (bs : Bytes) : Type 0 where
   pub room : size_of form ≤ length bs
   pub accepts : accepted form (take (size_of form) bs) ≡ true
-  pub is : form_at bs ≡ some form
+  pub is : form_at bs ≡ Some form
 
 pub data Stepped (bs : Bytes) (s : Folded) : Type 0 where
-  stops : step_of bs s ≡ unfinished → form_at bs ≡ none → ((m : ℕ) → step_of (take m bs) s ≡ unfinished) → Stepped bs s
+  stops : step_of bs s ≡ unfinished → form_at bs ≡ None → ((m : ℕ) → step_of (take m bs) s ≡ unfinished) → Stepped bs s
   refuses : (n : ℕ) → AtRecord n → 2 ≤ length bs → step_of bs s ≡ refuse n → Stepped bs s
   reads : (form : Form) (t : Folded) → Here form bs → Change (take (size_of form) bs) s.pending t.pending →
       step_of bs s ≡ read (size_of form) t →
@@ -109,36 +109,36 @@ step-marked : (bs : Bytes) (s : Folded) → 2 ≤ length bs → (o : Option Form
 unfolding step_of
 step-marked bs s h o e = rw (le-ltb (length bs) 2 h, e)
 
-module _ (bs : Bytes) (s : Folded) (h : 2 ≤ length bs) (form : Form) (e : form_of (take 2 bs) ≡ some form) where
+module _ (bs : Bytes) (s : Folded) (h : 2 ≤ length bs) (form : Form) (e : form_of (take 2 bs) ≡ Some form) where
   -- too few bytes for the form
   step_cut : length bs < size_of form → step_of bs s ≡ unfinished
   unfolding step_form
-  step_cut l = step-marked bs s h (some form) e ∙ rw (lt-ltb (length bs) (size_of form) l)
+  step_cut l = step-marked bs s h (Some form) e ∙ rw (lt-ltb (length bs) (size_of form) l)
 
   pub step-whole : size_of form ≤ length bs → step_of bs s ≡ step_whole form (take (size_of form) bs) s
   unfolding step_form
-  step-whole l = step-marked bs s h (some form) e ∙ rw (le-ltb (length bs) (size_of form) l)
+  step-whole l = step-marked bs s h (Some form) e ∙ rw (le-ltb (length bs) (size_of form) l)
 
 -- the form of the record that bytes begin with
-form-none : (bs : Bytes) → length bs < 2 → form_at bs ≡ none
+form-none : (bs : Bytes) → length bs < 2 → form_at bs ≡ None
 unfolding form_at
 form-none bs h = rw (lt-ltb (length bs) 2 h)
 
-module _ (bs : Bytes) (h : 2 ≤ length bs) (form : Form) (e : form_of (take 2 bs) ≡ some form) where
-  form-cut : length bs < size_of form → form_at bs ≡ none
+module _ (bs : Bytes) (h : 2 ≤ length bs) (form : Form) (e : form_of (take 2 bs) ≡ Some form) where
+  form-cut : length bs < size_of form → form_at bs ≡ None
   unfolding form_at whole_form
   form-cut l = rw (le-ltb (length bs) 2 h, e, lt-ltb (length bs) (size_of form) l)
 
-  form-whole : size_of form ≤ length bs → accepted form (take (size_of form) bs) ≡ true → form_at bs ≡ some form
+  form-whole : size_of form ≤ length bs → accepted form (take (size_of form) bs) ≡ true → form_at bs ≡ Some form
   unfolding form_at whole_form
   form-whole l a = rw (le-ltb (length bs) 2 h, e, le-ltb (length bs) (size_of form) l, a)
 
 -- the same bytes, cut
-module _ (bs : Bytes) (s : Folded) (h : 2 ≤ length bs) (form : Form) (e : form_of (take 2 bs) ≡ some form) (m : ℕ) where
+module _ (bs : Bytes) (s : Folded) (h : 2 ≤ length bs) (form : Form) (e : form_of (take 2 bs) ≡ Some form) (m : ℕ) where
   taken : length (take m bs) ≡ min m (length bs)
   taken = length-take m bs
 
-  mark-kept : 2 ≤ m → form_of (take 2 (take m bs)) ≡ some form
+  mark-kept : 2 ≤ m → form_of (take 2 (take m bs)) ≡ Some form
   mark-kept l = ap form_of (take-take 2 m bs l) ∙ e
 
   cut-before : min m (length bs) < size_of form → step_of (take m bs) s ≡ unfinished
@@ -170,7 +170,7 @@ pub stepped : (bs : Bytes) (s : Folded) → Stepped bs s
 unfolding step_form
 stepped bs s = go (ltb (length bs) 2) refl
   where
-    long : 2 ≤ length bs → (form : Form) → form_of (take 2 bs) ≡ some form → size_of form ≤ length bs → Stepped bs s
+    long : 2 ≤ length bs → (form : Form) → form_of (take 2 bs) ≡ Some form → size_of form ≤ length bs → Stepped bs s
     long h form e l = by (whole form (take (size_of form) bs) s)
       where
         by : Whole form (take (size_of form) bs) s (step_whole form (take (size_of form) bs) s) → Stepped bs s
@@ -180,8 +180,8 @@ stepped bs s = go (ltb (length bs) 2) refl
             (λ m. cut-whole bs s h form e m l (read (size_of form) t) q)
 
     marked : 2 ≤ length bs → (o : Option Form) → form_of (take 2 bs) ≡ o → Stepped bs s
-    marked h none e = refuses 10 unknown_mark h (step-marked bs s h none e)
-    marked h (some form) e = sized (ltb (length bs) (size_of form)) refl
+    marked h None e = refuses 10 unknown_mark h (step-marked bs s h None e)
+    marked h (Some form) e = sized (ltb (length bs) (size_of form)) refl
       where
         sized : (b : Bool) → ltb (length bs) (size_of form) ≡ b → Stepped bs s
         sized true q =

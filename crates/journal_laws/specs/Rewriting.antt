@@ -1,6 +1,6 @@
 -- A journal's records, each read to its value and written again: `JournalAgain`.
 use Rattle.std.specs.Prelude.{ℕ, zero, suc, ◌≡◌, true, cond, List, [], ◌∷◌, ltb, length, take, drop}
-use Rattle.std.proofs.Math.Option.{Option, none, some}
+use Rattle.std.specs.Prelude.{Option, None, Some}
 use Rattle.lists.specs.Bytes.{Bytes}
 use Rattle.lists.specs.Lists.{Each, collect}
 use Rattle.journal_record.specs.Reading.{Form, form_of, size_of, accepted}
@@ -10,15 +10,15 @@ use Rattle.journal_laws.specs.Refolding.{AllBytes}
 
 -- the form of the record that bytes begin with, if it is whole and accepted
 unfoldable pub whole_form : Option Form → Bytes → Option Form
-whole_form none bs = none
-whole_form (some form) bs = cond (ltb (length bs) (size_of form)) none (cond (accepted form (take (size_of form) bs)) (some form) none)
+whole_form None bs = None
+whole_form (Some form) bs = cond (ltb (length bs) (size_of form)) None (cond (accepted form (take (size_of form) bs)) (Some form) None)
 
 unfoldable pub form_at : Bytes → Option Form
-form_at bs = cond (ltb (length bs) 2) none (whole_form (form_of (take 2 bs)) bs)
+form_at bs = cond (ltb (length bs) 2) None (whole_form (form_of (take 2 bs)) bs)
 
 unfoldable pub value_then : Option Form → Bytes → (Bytes → List Value) → List Value
-value_then none bs next = []
-value_then (some form) bs next = value_of form (take (size_of form) bs) ∷ next (drop (size_of form) bs)
+value_then None bs next = []
+value_then (Some form) bs next = value_of form (take (size_of form) bs) ∷ next (drop (size_of form) bs)
 
 -- the values of at most k records
 unfoldable pub values_from : ℕ → Bytes → List Value

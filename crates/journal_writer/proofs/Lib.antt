@@ -1,4 +1,5 @@
 pub mod Filling
+pub mod OneByte
 pub mod Fitting
 pub mod Sized
 pub mod FieldsBack

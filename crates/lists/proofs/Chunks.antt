@@ -6,12 +6,11 @@ use mathlib.Core.Path.{◌≡◌, refl, sym, ap, ◌∙◌}
 use mathlib.Core.Bool.{Bool, true, false}
 use mathlib.Core.List.{List, [], ◌++◌, append-nil}
 use lib.Dec.{eqb, ltb}
-use lib.ListN.{length, take, drop, get_or, set, length-take, length-drop, length-set, take-append-drop, drop_of_length-le}
-use lib.Seq.{take-append-le, drop-append-le, take-append-add, drop-append-add, take-take, drop-drop, ext_get_or, get_or-set_same, get_or-set_other, take_all, get_or-append-add, get_or-drop, get_or-take}
+use lib.ListN.{length, take, drop, get_or, set, length-take, length-drop, length-set, drop_of_length-le}
+use lib.Seq.{take-append-le, drop-append-le, take-append-add, drop-append-add, take-take, drop-drop, ext_get_or, get_or-set_same, get_or-set_other}
 use borrow.Author.Tests.{ltb-true, ltb-false, eqb-true, eqb-false}
 use Rattle.lists.specs.Lists.{written, written_at, chunks}
 use Rattle.lists.proofs.Parts.{drop-take}
-use Rattle.lists.proofs.Writing.{copy_more}
 
 -- ---- the part in a place
 
@@ -122,49 +121,3 @@ module _ (w k : ℕ) (v l : List ℕ) (narrow : length v ≤ w) (room : w * k + 
 -- the whole part is written over
 pub written-whole : (v l : List ℕ) → length l ≤ length v → written v l ≡ v
 written-whole v l h = rw (drop_of_length-le l h) (append-nil v)
-
--- ---- a list moved to a place before it, one element after another
-
--- what lies past a write
-past-written : (at : ℕ) (v l : List ℕ) (i : ℕ) → at + length v ≤ length l → at + length v ≤ i → get_or (written_at at v l) i 0 ≡ get_or l i 0
-past-written at v l i b h =
-    let p : length (take at l) ≡ at = simp length-take (omega arith) in
-    let r : ℕ = i - (at + length v) in
-    let e : i ≡ length (take at l) + (length v + (i - (at + length v))) = omega (arith, p) in
-    let f : at + (length v + (i - (at + length v))) ≡ i = omega arith in
-    ap {B = ℕ} (λ n. get_or (written_at at v l) n 0) e
-    ∙ get_or-append-add (take at l) (v ++ drop (length v) (drop at l)) (length v + r) 0
-    ∙ get_or-append-add v (drop (length v) (drop at l)) r 0
-    ∙ rw (get_or-drop (length v) (drop at l) r 0, get_or-drop at l (length v + r) 0, f)
-
--- after so many elements
-pub record Moved (to from count : ℕ) (l out : List ℕ) (i : ℕ) : Type 0 where
-  pub within : i ≤ count
-  pub same : length out ≡ length l
-  pub holds : out ≡ written_at to (take i (take count (drop from l))) l
-
-module _ (to from count : ℕ) (l : List ℕ) where
-  pub move_start : Moved to from count l l 0
-  move_start = record { within = omega arith; same = refl; holds = sym (take-append-drop to l) }
-
-  module _ (room : from + count ≤ length l) (out : List ℕ) (i : ℕ) (m : Moved to from count l out i) where
-    sized : length (take count (drop from l)) ≡ count
-    sized = simp (length-take, length-drop) (omega arith)
-
-    -- the element is not yet written over
-    pub move-more : to ≤ from → i < count → Moved to from count l (set out (to + i) (get_or out (from + i) 0)) (i + 1)
-    move-more h b =
-        let n : length (take i (take count (drop from l))) ≡ i = simp (length-take, length-drop) (omega arith) in
-        let g : get_or out (from + i) 0 ≡ get_or (take count (drop from l)) i 0 =
-        rw m.holds (past-written to (take i (take count (drop from l))) l (from + i) (omega (arith, n)) (omega (arith, n)))
-        ∙ sym (get_or-take count (drop from l) i 0 b ∙ get_or-drop from l i 0) in
-        record {
-          within = omega arith;
-          same = length-set out (to + i) (get_or out (from + i) 0) ∙ m.same;
-          holds = rw (g, m.holds) (copy_more to (take count (drop from l)) l i (omega (arith, sized)) (omega (arith, sized)));
-        }
-
-    pub move_all : count ≤ i → out ≡ written_at to (take count (drop from l)) l
-    move_all b =
-        let e : i ≡ count = omega (arith, m.within) in
-        m.holds ∙ rw (e, take_all count (take count (drop from l)) (omega (arith, sized)))

@@ -1,13 +1,11 @@
 -- The laws of `keep` and `Each`.
-use Prim.Native.Nat.{ℕ, ◌+◌, ◌≤◌, ◌<◌}
-use native.Mathlib.Numerals.{add-one}
+use Prim.Native.Nat.{ℕ, ◌≤◌}
 use mathlib.Core.Path.{◌≡◌, refl, sym, ap, ◌∙◌, subst}
 use mathlib.Core.Bool.{Bool, true, false, cond, false≢true}
 use mathlib.Core.List.Memᴰ
 use mathlib.Core.List.{List, [], ◌∷◌, ◌++◌, Memᴰ}
 use mathlib.Core.Logic.{◌⊎◌, inl, inr}
-use lib.ListN.{length, drop, get_or, drop_of_length-le}
-use lib.Seq.{drop-cons}
+use lib.ListN.{length, drop, drop_of_length-le}
 use Rattle.lists.specs.Lists.{keep, Each}
 use Rattle.lists.proofs.ByteOrder.{clash}
 
@@ -22,13 +20,6 @@ module _ {A : Type 0} where
 
   -- what is kept of the elements that are left
   module _ (p : A → Bool) (xs : List A) (i : ℕ) where
-    module _ (d : A) (h : i < length xs) where
-      pub rest-yes : p (get_or xs i d) ≡ true → keep p (drop i xs) ≡ get_or xs i d ∷ keep p (drop (i + 1) xs)
-      rest-yes t = rw (add-one, drop-cons xs i d) (keep-yes p (get_or xs i d) _ t)
-
-      pub rest-no : p (get_or xs i d) ≡ false → keep p (drop i xs) ≡ keep p (drop (i + 1) xs)
-      rest-no t = rw (add-one, drop-cons xs i d) (keep-no p (get_or xs i d) _ t)
-
     pub rest_end : length xs ≤ i → keep p (drop i xs) ≡ []
     unfolding keep
     rest_end h = rw (drop_of_length-le xs h)

@@ -2,10 +2,12 @@ pub mod Ascending
 pub mod ByteOrder
 pub mod Chunks
 pub mod Compacting
+pub mod Comparing
 pub mod Counting
 pub mod Elements
 pub mod Keeping
 pub mod Listing
+pub mod Options
 pub mod Pairs
 pub mod Parts
 pub mod Pasting

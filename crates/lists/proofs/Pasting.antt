@@ -4,16 +4,8 @@ use native.Mathlib.Numerals.{add-one}
 use native.Mathlib.Omega.{arith}
 use mathlib.Core.Path.{◌≡◌, ◌∙◌}
 use mathlib.Core.List.{List, [], ◌∷◌, ◌++◌, append_assoc}
-use lib.ListN.{length, take, drop, get_or, set}
-use lib.Seq.{paste, paste-suc, length-paste, take-paste, take_all, take-suc-set, set_split}
-
-module _ (d : List ℕ) (at : ℕ) (s to : List ℕ) (i : ℕ) (written : to ≡ paste d at s i) where
-  -- a turn that writes the next element
-  pub paste-turn : (b : ℕ) → at + i < length d → i < length s → b ≡ get_or s i 0 → set to (at + i) b ≡ paste d at s (i + 1)
-  paste-turn b h g v = rw (written, v, add-one i, paste-suc d at s i 0 h g)
-
-  pub paste-long : at + i ≤ length d → i ≤ length s → length to ≡ length d
-  paste-long h g = rw (written, length-paste d at s i h g)
+use lib.ListN.{length, take, drop, set}
+use lib.Seq.{paste, take-paste, take_all, take-suc-set, set_split}
 
 -- one element
 pub paste-one : (d : List ℕ) (at b : ℕ) → at < length d → set d at b ≡ paste d at (b ∷ []) 1

@@ -31,16 +31,6 @@ at-behind at l m out h =
     rw
     (← append_assoc (take at out) l (drop (length l) (drop at out)), take_at (take at out ++ l) (drop (length l) (drop at out)) (at + length l) e, drop_at (take at out ++ l) (drop (length l) (drop at out)) (at + length l) e, append_assoc (take at out) l, append_assoc l m, length-append l m, drop-drop (length m) (length l) (drop at out))
 
--- three numbers
-pub three-at : (out : List ℕ) (at x y z : ℕ) → at + 3 ≤ length out → set (set (set out at x) (at + 1) y) (at + 2) z ≡ written_at at (x ∷ y ∷ z ∷ []) out
-three-at out at x y z h =
-    let one : set out at x ≡ written_at at (x ∷ []) out = one_at out at x (omega arith) in
-    let n : length (written_at at (x ∷ []) out) ≡ length out = length_at at (x ∷ []) out (omega arith) in
-    let two : set (written_at at (x ∷ []) out) (at + 1) y ≡ written_at at (x ∷ y ∷ []) out =
-    one_at (written_at at (x ∷ []) out) (at + 1) y (omega arith) ∙ at-behind at (x ∷ []) (y ∷ []) out (omega arith) in
-    let m : length (written_at at (x ∷ y ∷ []) out) ≡ length out = length_at at (x ∷ y ∷ []) out (omega arith) in
-    rw (one, two) (one_at (written_at at (x ∷ y ∷ []) out) (at + 2) z (omega arith) ∙ at-behind at (x ∷ y ∷ []) (z ∷ []) out (omega arith))
-
 -- a loop that copies a list to a place
 pub copy_more : (at : ℕ) (l out : List ℕ) (j : ℕ) → j < length l → at + length l ≤ length out →
     set (written_at at (take j l) out) (at + j) (get_or l j 0) ≡ written_at at (take (j + 1) l) out

@@ -5,7 +5,8 @@ use mathlib.Core.Path.{◌≡◌, refl, sym, ap, ◌∙◌, subst, fun_ext}
 use mathlib.Core.Bool.{Bool, true, false, not, cond}
 use mathlib.Core.List.Memᴰ
 use mathlib.Core.List.{List, [], ◌∷◌, ◌++◌}
-use mathlib.Core.Option.{Option, none, some, or_else}
+use Rattle.std.specs.Prelude.{Option, None, Some}
+use Rattle.std.specs.Option.{option_or}
 use lib.ListN.{length}
 use Rattle.lists.specs.Bytes.{Bytes, eq_bytes}
 use Rattle.lists.proofs.ByteOrder.{eq_bytes-of, eq_bytes-true, eq_bytes-refl, clash}
@@ -30,10 +31,10 @@ view s = record { entries = s.entries; guards = λ h. guard_of h s.guards }
 -- ---- the same calls on an ideal store
 
 unfoldable pub without : Bytes → Guards → Guards
-without h G = λ x. cond (eq_bytes h x) none (G x)
+without h G = λ x. cond (eq_bytes h x) None (G x)
 
 unfoldable pub with' : Guard → Guards → Guards
-with' g G = λ x. cond (eq_bytes g.hash x) (some g) (G x)
+with' g G = λ x. cond (eq_bytes g.hash x) (Some g) (G x)
 
 unfoldable pub drop_if : Bool → Bytes → Guards → Guards
 drop_if true h G = without h G
@@ -70,8 +71,8 @@ effectᵢ s (check_reorg b canonical) = trailed (trail (reorg_rule b canonical) 
 effectᵢ s (check_finalized n) = trailed (trail (final_rule n) s.entries s.guards) dead
 
 unfoldable pub unlessᵢ : Option ℕ → Ideal → Ideal × Answer → Ideal × Answer
-unlessᵢ (some n) s done = (s, refused n)
-unlessᵢ none s done = done
+unlessᵢ (Some n) s done = (s, refused n)
+unlessᵢ None s done = done
 
 unfoldable pub stepᵢ : Ideal → Call → Ideal × Answer
 stepᵢ s c = unlessᵢ (input_refusal c) s (effectᵢ s c)
@@ -86,18 +87,18 @@ transcriptᵢ s (c ∷ cs) = (c, shown (stepᵢ s c).1) ∷ transcriptᵢ (step�
 
 -- ---- guards by hash, in a list and as a function
 
-pub guard_of-drop : (h : Bytes) (gs : List Guard) (x : Bytes) → guard_of x (drop_guard h gs) ≡ cond (eq_bytes h x) none (guard_of x gs)
+pub guard_of-drop : (h : Bytes) (gs : List Guard) (x : Bytes) → guard_of x (drop_guard h gs) ≡ cond (eq_bytes h x) None (guard_of x gs)
 unfolding guard_of drop_guard keep
 guard_of-drop h [] x = none-either (eq_bytes h x)
   where
-    none-either : (b : Bool) → ◌≡◌ {A = Option Guard} none (cond b none none)
+    none-either : (b : Bool) → ◌≡◌ {A = Option Guard} None (cond b None None)
     none-either true = refl
     none-either false = refl
 guard_of-drop h (g ∷ gs) x = go (eq_bytes g.hash h) refl (eq_bytes g.hash x) refl (eq_bytes h x) refl (guard_of-drop h gs x)
   where
     go : (b : Bool) → eq_bytes g.hash h ≡ b → (c : Bool) → eq_bytes g.hash x ≡ c → (d : Bool) → eq_bytes h x ≡ d →
-        guard_of x (drop_guard h gs) ≡ cond d none (guard_of x gs) →
-        guard_of x (cond (not b) (g ∷ drop_guard h gs) (drop_guard h gs)) ≡ cond d none (cond c (some g) (guard_of x gs))
+        guard_of x (drop_guard h gs) ≡ cond d None (guard_of x gs) →
+        guard_of x (cond (not b) (g ∷ drop_guard h gs) (drop_guard h gs)) ≡ cond d None (cond c (Some g) (guard_of x gs))
     go true p c q true r ih = ih
     go true p true q false r ih = clash (subst (λ (y : Bytes). eq_bytes y x ≡ true) (eq_bytes-true g.hash h p) q) r
     go true p false q false r ih = ih
@@ -115,14 +116,14 @@ unfolding drop_if without by_hash
 drop_if-view true h gs = fun_ext (λ x. sym (guard_of-drop h gs x))
 drop_if-view false h gs = refl
 
-guard_of-put : (g : Guard) (gs : List Guard) (x : Bytes) → cond (eq_bytes g.hash x) (some g) (guard_of x gs) ≡ guard_of x (put_guard g gs)
+guard_of-put : (g : Guard) (gs : List Guard) (x : Bytes) → cond (eq_bytes g.hash x) (Some g) (guard_of x gs) ≡ guard_of x (put_guard g gs)
 unfolding guard_of put_guard
 guard_of-put g [] x = refl
 guard_of-put g (y ∷ ys) x = go (eq_bytes y.hash g.hash) refl (eq_bytes g.hash x) refl (eq_bytes y.hash x) refl (guard_of-put g ys x)
   where
     go : (b : Bool) → eq_bytes y.hash g.hash ≡ b → (c : Bool) → eq_bytes g.hash x ≡ c → (d : Bool) → eq_bytes y.hash x ≡ d →
-        cond (eq_bytes g.hash x) (some g) (guard_of x ys) ≡ guard_of x (put_guard g ys) →
-        cond c (some g) (cond d (some y) (guard_of x ys)) ≡ guard_of x (cond b (g ∷ ys) (y ∷ put_guard g ys))
+        cond (eq_bytes g.hash x) (Some g) (guard_of x ys) ≡ guard_of x (put_guard g ys) →
+        cond c (Some g) (cond d (Some y) (guard_of x ys)) ≡ guard_of x (cond b (g ∷ ys) (y ∷ put_guard g ys))
     go true p true q d r ih = rw q
     go true p false q true r ih = clash (subst (λ (h : Bytes). eq_bytes h x ≡ true) (eq_bytes-true y.hash g.hash p) r) q
     go true p false q false r ih = rw q
@@ -172,8 +173,8 @@ effect-view s (check_finalized n) = walked-view (final_rule n) s.entries s.guard
 
 -- the refusals about room are 2, 5 and 8
 abbrev pub RoomOnly : Option ℕ → Type 0
-RoomOnly none = Unit {0}
-RoomOnly (some n) = about_room (refused n) ≡ true
+RoomOnly None = Unit {0}
+RoomOnly (Some n) = about_room (refused n) ≡ true
 
 when-room : (b : Bool) (n : ℕ) → about_room (refused n) ≡ true → RoomOnly (when b n)
 unfolding when
@@ -192,17 +193,17 @@ room-only s (check_finalized n) form numbers bytes = when-room _ 5 refl
 
 -- a call that is not refused for want of room is the ideal call
 step-view : (s : Store) (q : Request) → about_room (step s q).1 ≡ false → stepᵢ (view s) q.call ≡ seen (step s q)
-unfolding stepᵢ step seen unless unlessᵢ refusal or_else
+unfolding stepᵢ step seen unless unlessᵢ refusal
 step-view s q = go (input_refusal q.call) (room_refusal s q.call q.form q.numbers q.bytes) (room-only s q.call q.form q.numbers q.bytes)
   where
     c : Call
     c = q.call
 
-    go : (i r : Option ℕ) → RoomOnly r → about_room (unless (or_else i r) s (effect s c)).1 ≡ false →
-        unlessᵢ i (view s) (effectᵢ (view s) c) ≡ seen (unless (or_else i r) s (effect s c))
-    go (some n) r p h = refl
-    go none (some n) p h = clash p h
-    go none none p h = effect-view s c
+    go : (i r : Option ℕ) → RoomOnly r → about_room (unless (option_or i r) s (effect s c)).1 ≡ false →
+        unlessᵢ i (view s) (effectᵢ (view s) c) ≡ seen (unless (option_or i r) s (effect s c))
+    go (Some n) r p h = refl
+    go None (Some n) p h = clash p h
+    go None None p h = effect-view s c
 
 -- ---- a list of calls
 

@@ -3,7 +3,7 @@
 use mathlib.Core.Path.{◌≡◌, refl, sym, ap, subst}
 use mathlib.Core.Bool.{Bool, true, false, cond}
 use mathlib.Core.List.{List, [], ◌∷◌}
-use mathlib.Core.Option.{Option, none, some}
+use Rattle.std.specs.Prelude.{Option, None, Some}
 use lib.ListN.{length}
 use Prim.Native.Nat.{ℕ, ◌≤◌}
 use native.Mathlib.Omega.{arith}
@@ -65,8 +65,8 @@ thinner-refl (e ∷ es) = also refl (thinner-refl es)
 
 after-thinner : (o : Option Standing) (e : Entry) {fs es : List Entry} → Thinner fs es → Thinner (after o e.frame fs) (e ∷ es)
 unfolding after
-after-thinner none e t = skip t
-after-thinner (some s) e t = also refl t
+after-thinner None e t = skip t
+after-thinner (Some s) e t = also refl t
 
 pub trail-thinner : {A : Type 0} (rule : Option Guard → Entry → Visit A) (es : List Entry) (G : Guards) → Thinner (trail rule es G).entries es
 unfolding trail behind
@@ -166,5 +166,5 @@ module _ (owner : Bytes → Key) where
   step-good s c o h = go (input_refusal c)
     where
       go : (i : Option ℕ) → Good (unlessᵢ i s (effectᵢ s c)).0
-      go (some n) = h
-      go none = record { sorted = effect-sorted s c h.sorted; owned = effect-owned s c o h.owned }
+      go (Some n) = h
+      go None = record { sorted = effect-sorted s c h.sorted; owned = effect-owned s c o h.owned }

@@ -3,7 +3,7 @@ use Prim.Native.Nat.{ℕ}
 use mathlib.Core.Path.{◌≡◌, refl, sym, ap, ◌∙◌, subst}
 use mathlib.Core.Bool.{Bool, true, false, ◌&&◌, not, cond}
 use mathlib.Core.List.{List, [], ◌∷◌, ◌++◌}
-use mathlib.Core.Option.{Option, some}
+use Rattle.std.specs.Prelude.{Option, Some}
 use lib.Dec.{ltb, leb, eqb}
 use Rattle.lists.specs.Bytes.{Bytes, eq_bytes, le_bytes}
 use Rattle.lists.specs.Lists.{Each, Pairwise, is_empty}
@@ -123,7 +123,7 @@ about-poll head known content g e = go e.standing.state (guard_matches g (predec
     go : (s : State) (b : Bool) → About row_of e.frame (poll_in s head known b e)
     go tracked b =
         about-if row_of e.frame (degraded e.frame) (poll_degraded head known e) (poll_full head known b e)
-        (held passed (held_at e.standing.held head) (record { state = e.standing.state; held = some head }))
+        (held passed (held_at e.standing.held head) (record { state = e.standing.state; held = Some head }))
         (full passed (not (is_empty lacking)) b (predecessors head e.frame))
     go (tentative c) b = tt
 

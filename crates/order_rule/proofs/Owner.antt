@@ -5,7 +5,8 @@ use mathlib.Core.Logic.{◌⊎◌, inl, inr}
 use mathlib.Core.Bool.{Bool, true, false, cond}
 use mathlib.Core.List.Memᴰ
 use mathlib.Core.List.{List, [], ◌∷◌, ◌++◌, Memᴰ}
-use mathlib.Core.Option.{Option, none, some, some-injective, none-ne-some}
+use Rattle.std.specs.Prelude.{Option, None, Some}
+use Rattle.lists.proofs.Options.{some-injective, none-ne-some}
 use Rattle.lists.specs.Bytes.{Bytes, eq_bytes}
 use Rattle.lists.proofs.ByteOrder.{eq_bytes-true, eq_bytes-of, clash}
 use Rattle.lists.proofs.Keeping.{mem-keep, keep-mem}
@@ -18,11 +19,11 @@ use Rattle.order_rule.proofs.Part.{eq_key-refl}
 -- ---- the calls of the second list are those of the first
 
 module _ {A : Type 0} (key_of : A → Option Key) where
-  key-of : {xs : List A} → Keyed key_of xs → (x : A) → Memᴰ x xs → (k : Key) × (key_of x ≡ some k)
+  key-of : {xs : List A} → Keyed key_of xs → (x : A) → Memᴰ x xs → (k : Key) × (key_of x ≡ Some k)
   key-of nothing x m = absurd (Memᴰ.not-nil m)
   key-of (also {x = y} {xs = ys} k e r) x m = go (Memᴰ.cases_cons m) (key-of r x)
     where
-      go : (x ≡ y) ⊎ Memᴰ x ys → (Memᴰ x ys → (j : Key) × (key_of x ≡ some j)) → (j : Key) × (key_of x ≡ some j)
+      go : (x ≡ y) ⊎ Memᴰ x ys → (Memᴰ x ys → (j : Key) × (key_of x ≡ Some j)) → (j : Key) × (key_of x ≡ Some j)
       go (inl q) ih = (k, ap key_of q ∙ e)
       go (inr n) ih = ih n
 
@@ -47,7 +48,7 @@ module _ {A : Type 0} (key_of : A → Option Key) where
 
 -- ---- the owner found in the list
 
-push-of : (c : Call) (f : Frame) → push_of c ≡ some f → c ≡ push f
+push-of : (c : Call) (f : Frame) → push_of c ≡ Some f → c ≡ push f
 unfolding push_of
 push-of (push g) f e = ap push (some-injective g f e)
 push-of (poll a head known content) f e = absurd (none-ne-some f e)
@@ -68,9 +69,9 @@ owner-found (c ∷ cs) f one m = go (push_of c) refl (Memᴰ.cases_cons m) (owne
 
     go : (o : Option Frame) → push_of c ≡ o → (push f ≡ c) ⊎ Memᴰ (push f) cs → (Memᴰ (push f) cs → Found cs) →
         owner_by o f.hash (owner_in cs f.hash) ≡ sender f.from
-    go none e (inl q) ih = absurd (none-ne-some f (sym e ∙ ap push_of (sym q)))
-    go none e (inr n) ih = ih n
-    go (some g) e where-f ih = pick (eq_bytes g.hash f.hash) refl where-f
+    go None e (inl q) ih = absurd (none-ne-some f (sym e ∙ ap push_of (sym q)))
+    go None e (inr n) ih = ih n
+    go (Some g) e where-f ih = pick (eq_bytes g.hash f.hash) refl where-f
       where
         pick : (b : Bool) → eq_bytes g.hash f.hash ≡ b → (push f ≡ c) ⊎ Memᴰ (push f) cs → cond b (sender g.from) (owner_in cs f.hash) ≡ sender f.from
         pick true p w = ap sender (one g (Memᴰ.head (sym (push-of c g e))) (eq_bytes-true g.hash f.hash p))
@@ -104,8 +105,8 @@ pushed-or (c ∷ cs) h = go (push_of c) refl (pushed-or cs h)
     later k e (inr q) = inr (e ∙ q)
 
     go : (o : Option Frame) → push_of c ≡ o → Pushed cs h ⊎ (owner_in cs h ≡ alone h) → Pushed (c ∷ cs) h ⊎ (owner_by o h (owner_in cs h) ≡ alone h)
-    go none e r = later (owner_in cs h) refl r
-    go (some f) e r = pick (eq_bytes f.hash h) refl
+    go None e r = later (owner_in cs h) refl r
+    go (Some f) e r = pick (eq_bytes f.hash h) refl
       where
         pick : (b : Bool) → eq_bytes f.hash h ≡ b → Pushed (c ∷ cs) h ⊎ (cond b (sender f.from) (owner_in cs h) ≡ alone h)
         pick true p = inl (f, Memᴰ.head (sym (push-of c f e)), eq_bytes-true f.hash h p)

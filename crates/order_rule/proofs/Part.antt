@@ -3,7 +3,7 @@
 use mathlib.Core.Path.{◌≡◌, refl, sym, ap, ◌∙◌, subst}
 use mathlib.Core.Bool.{Bool, true, false, false≢true}
 use mathlib.Core.List.{List, [], ◌∷◌}
-use mathlib.Core.Option.{Option, some}
+use Rattle.std.specs.Prelude.{Option, Some}
 use Rattle.lists.specs.Bytes.{Bytes, eq_bytes, le_bytes}
 use Rattle.lists.specs.Lists.{keep, Each}
 use Rattle.lists.proofs.ByteOrder.{eq_bytes-refl, eq_bytes-true, clash}
@@ -71,7 +71,7 @@ module _ (owner : Bytes → Key) where
 
     -- ---- between two calls without a key, the calls that concern the part are the key's
 
-    keyed-is : {o : Option Key} {j : Key} → o ≡ some j → concerns Is o ≡ is_for k o
+    keyed-is : {o : Option Key} {j : Key} → o ≡ Some j → concerns Is o ≡ is_for k o
     unfolding concerns is_for
     keyed-is e = rw e
 

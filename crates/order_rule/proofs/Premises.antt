@@ -3,7 +3,8 @@ use Prim.Native.Nat.{ℕ, zero, suc}
 use mathlib.Core.Path.{◌≡◌, refl, sym, ap, ◌∙◌}
 use mathlib.Core.Bool.{Bool, true, false, ◌&&◌, not, cond}
 use mathlib.Core.List.{List, [], ◌∷◌, Memᴰ, nil≢cons}
-use mathlib.Core.Option.{Option, none, some, or_else}
+use Rattle.std.specs.Prelude.{Option, None, Some}
+use Rattle.std.specs.Option.{option_or}
 use borrow.Author.Tests.{eqb-false, not-false}
 use lib.Dec.{eqb}
 use lib.ListN.{length, replicate}
@@ -44,8 +45,8 @@ room s (x ∷ xs) e = go (about_room (step_item s x).1) e (room (step_item s x).
 
 -- a push by another than the sender that is named for its hash
 unfoldable pub misfits : (Bytes → Bytes) → Option Frame → Bool
-misfits named none = false
-misfits named (some f) = not (eq_bytes (named f.hash) f.from)
+misfits named None = false
+misfits named (Some f) = not (eq_bytes (named f.hash) f.from)
 
 pub one-sender : (named : Bytes → Bytes) (cs : List Call) → keep (λ c. misfits named (push_of c)) cs ≡ [] → OneSender cs
 unfolding misfits push_of
@@ -64,13 +65,13 @@ apart-guards p k xs ys t f e = clash t (ap p (e.guards k) ∙ f)
 
 -- a guard stands, and for this expected nonce its boundary holds
 has_boundary : ℕ → Option Guard → Bool
-has_boundary n none = false
-has_boundary n (some g) = boundary_holds g.kind n
+has_boundary n None = false
+has_boundary n (Some g) = boundary_holds g.kind n
 
 -- ---- the claims
 
 pub premises : Premises
-unfolding Sweeps.polls_from Sweeps.in_turn Sweeps.polls_in Sweeps.bad_lists Sweeps.bad_sum Sweeps.big_count Sweeps.sweep_input_refusal Sweeps.listed_entries Sweeps.sweep_room_refusal Sweeps.sweep_refusal Sweeps.sweep_effect Sweeps.sweep_step step_item run_items answers_of Answers.numbers_of Answers.row_numbers Lists.sum Lists.chunks Lists.collect Store.refusal run empty Store.step Store.unless or_else Store.input_refusal Store.room_refusal Store.row_width Store.effect Store.walk Store.walked Store.insert Store.fresh Lookup.enters Lookup.found_behind Lookup.first_of Lookup.lookup Lookup.is_found Lookup.enter_with Lookup.enter_head Lookup.enter_first is_tracked guard_of is_guarded Store.drop_guard Store.put_guard Store.after Store.when Store.wide_gap Store.bad_content Store.bad_contents Store.no_room_for Store.listed Lookup.entries_of keep Search.first_at Lists.is_empty Lists.is_in Lists.numbers_from eq_bytes le_bytes degraded Poll.gap Poll.predecessors Poll.unknown boundary_holds Poll.guard_matches Poll.stay Poll.leave Poll.row Poll.poll_full Poll.poll_in Poll.poll_given Poll.poll_rule Rules.only_of Rules.evict_rule Rules.differs Rules.reorg_in Rules.reorg_rule Rules.final_in Rules.final_rule key_by owner_in Orders.owner_by push_of Orders.transcript Orders.shown Orders.unrefused Orders.calls_of calls_read Orders.requests_of Orders.transcript_read about_room Orders.eq_key Orders.is_for Orders.of_key misfits has_boundary a b h i frame Premises.ask parks parks_of Premises.enters100 Premises.finalized100 Premises.reorganised100 Premises.whole_gap Premises.polls Premises.sweeps Premises.sweeps_many Premises.guards guards_of enter_before enter_after finality_last finality_between reorg_last reorg_between poll_after poll_before five_then_six six_then_five evict_first evict_last poll_lacks_room short_lacks_room sweep_after sweep_lacks_room drop_first drop_last a_then_b b_between
+unfolding Sweeps.polls_from Sweeps.in_turn Sweeps.polls_in Sweeps.bad_lists Sweeps.bad_sum Sweeps.big_count Sweeps.sweep_input_refusal Sweeps.listed_entries Sweeps.sweep_room_refusal Sweeps.sweep_refusal Sweeps.sweep_effect Sweeps.sweep_step step_item run_items answers_of Answers.numbers_of Answers.row_numbers Lists.sum Lists.chunks Lists.collect Store.refusal run empty Store.step Store.unless Store.input_refusal Store.room_refusal Store.row_width Store.effect Store.walk Store.walked Store.insert Store.fresh Lookup.enters Lookup.found_behind Lookup.first_of Lookup.lookup Lookup.is_found Lookup.enter_with Lookup.enter_head Lookup.enter_first is_tracked guard_of is_guarded Store.drop_guard Store.put_guard Store.after Store.when Store.wide_gap Store.bad_content Store.bad_contents Store.no_room_for Store.listed Lookup.entries_of keep Search.first_at Lists.is_empty Lists.is_in Lists.numbers_from eq_bytes le_bytes degraded Poll.gap Poll.predecessors Poll.unknown boundary_holds Poll.guard_matches Poll.stay Poll.leave Poll.row Poll.poll_full Poll.poll_in Poll.poll_given Poll.poll_rule Rules.only_of Rules.evict_rule Rules.differs Rules.reorg_in Rules.reorg_rule Rules.final_in Rules.final_rule key_by owner_in Orders.owner_by push_of Orders.transcript Orders.shown Orders.unrefused Orders.calls_of calls_read Orders.requests_of Orders.transcript_read about_room Orders.eq_key Orders.is_for Orders.of_key misfits has_boundary a b h i frame Premises.ask parks parks_of Premises.enters100 Premises.finalized100 Premises.reorganised100 Premises.whole_gap Premises.polls Premises.sweeps Premises.sweeps_many Premises.guards guards_of enter_before enter_after finality_last finality_between reorg_last reorg_between poll_after poll_before five_then_six six_then_five evict_first evict_last poll_lacks_room short_lacks_room sweep_after sweep_lacks_room drop_first drop_last a_then_b b_between
 premises = record {
   one_sender = (
     rest (swap (key_by (owner_in (calls_read enter_before))) _ _ (sender b) (sender a) refl refl refl (also (sender b) refl nothing) nothing),

@@ -6,7 +6,7 @@ use Prim.Native.Nat.{ℕ}
 use mathlib.Core.Path.{◌≡◌, refl, sym, ap, ap₂, ◌∙◌, fun_ext}
 use mathlib.Core.Bool.{Bool, true, false, ◌&&◌, cond, false≢true, true≢false}
 use mathlib.Core.List.{List, [], ◌∷◌, ◌++◌}
-use mathlib.Core.Option.{Option, none, some}
+use Rattle.std.specs.Prelude.{Option, None, Some}
 use Rattle.lists.specs.Bytes.{Bytes, eq_bytes, le_bytes}
 use Rattle.lists.specs.Lists.{keep, Each}
 use Rattle.lists.proofs.ByteOrder.{eq_bytes-true, le_bytes-trans, clash}
@@ -37,7 +37,7 @@ module _ (owner : Bytes → Key) (p : Key → Bool) where
   Held es = keep (λ e. ours e.frame) es
 
   unfoldable pub only : Guards → Guards
-  only G = λ h. cond (p (owner h)) (G h) none
+  only G = λ h. cond (p (owner h)) (G h) None
 
   unfoldable pub shard : Ideal → Ideal
   shard s = record { entries = Held s.entries; guards = only s.guards }
@@ -53,7 +53,7 @@ module _ (owner : Bytes → Key) (p : Key → Bool) where
   only-drop_if false h G = refl
   only-drop_if true h G = fun_ext (λ x. go (p (owner x)) (eq_bytes h x) (G x))
     where
-      go : (b c : Bool) (v : Option Guard) → cond b (cond c none v) none ≡ cond c none (cond b v none)
+      go : (b c : Bool) (v : Option Guard) → cond b (cond c None v) None ≡ cond c None (cond b v None)
       go true true v = refl
       go true false v = refl
       go false true v = refl
@@ -63,7 +63,7 @@ module _ (owner : Bytes → Key) (p : Key → Bool) where
   unfolding only with'
   only-with g G e = fun_ext (λ x. go x (eq_bytes g.hash x) refl)
     where
-      go : (x : Bytes) (c : Bool) → eq_bytes g.hash x ≡ c → cond c (some g) (only G x) ≡ cond (p (owner x)) (cond c (some g) (G x)) none
+      go : (x : Bytes) (c : Bool) → eq_bytes g.hash x ≡ c → cond c (Some g) (only G x) ≡ cond (p (owner x)) (cond c (Some g) (G x)) None
       go x true q = rw (← eq_bytes-true g.hash x q, e)
       go x false q = refl
 
@@ -72,7 +72,7 @@ module _ (owner : Bytes → Key) (p : Key → Bool) where
   other-drop_if false h G n = refl
   other-drop_if true h G n = fun_ext (λ x. go x (eq_bytes h x) refl)
     where
-      go : (x : Bytes) (c : Bool) → eq_bytes h x ≡ c → cond (p (owner x)) (cond c none (G x)) none ≡ cond (p (owner x)) (G x) none
+      go : (x : Bytes) (c : Bool) → eq_bytes h x ≡ c → cond (p (owner x)) (cond c None (G x)) None ≡ cond (p (owner x)) (G x) None
       go x true q = rw (← eq_bytes-true h x q, n)
       go x false q = refl
 
@@ -80,7 +80,7 @@ module _ (owner : Bytes → Key) (p : Key → Bool) where
   unfolding only with'
   other-with g G n = fun_ext (λ x. go x (eq_bytes g.hash x) refl)
     where
-      go : (x : Bytes) (c : Bool) → eq_bytes g.hash x ≡ c → cond (p (owner x)) (cond c (some g) (G x)) none ≡ cond (p (owner x)) (G x) none
+      go : (x : Bytes) (c : Bool) → eq_bytes g.hash x ≡ c → cond (p (owner x)) (cond c (Some g) (G x)) None ≡ cond (p (owner x)) (G x) None
       go x true q = rw (← eq_bytes-true g.hash x q, n)
       go x false q = refl
 
@@ -93,13 +93,13 @@ module _ (owner : Bytes → Key) (p : Key → Bool) where
 
   after-own : (o : Option Standing) (f : Frame) (es : List Entry) → ours f ≡ true → after o f (Held es) ≡ Held (after o f es)
   unfolding after
-  after-own none f es h = refl
-  after-own (some s) f es h = sym (keep-yes (λ e. ours e.frame) (record { frame = f; standing = s }) es h)
+  after-own None f es h = refl
+  after-own (Some s) f es h = sym (keep-yes (λ e. ours e.frame) (record { frame = f; standing = s }) es h)
 
   after-other : (o : Option Standing) (f : Frame) (es : List Entry) → ours f ≡ false → Held es ≡ Held (after o f es)
   unfolding after
-  after-other none f es h = refl
-  after-other (some s) f es h = sym (keep-no (λ e. ours e.frame) (record { frame = f; standing = s }) es h)
+  after-other None f es h = refl
+  after-other (Some s) f es h = sym (keep-no (λ e. ours e.frame) (record { frame = f; standing = s }) es h)
 
   module _ {A : Type 0} (of : A → Frame) where
     abbrev pub Listed : List A → List A
@@ -245,8 +245,8 @@ module _ (owner : Bytes → Key) (p : Key → Bool) where
 
   -- of a sender's call all, of a reorganisation and a finality what is ours
   unfoldable pub our_answer : Option Key → Answer → Answer
-  our_answer none a = our_list a
-  our_answer (some k) a = a
+  our_answer None a = our_list a
+  our_answer (Some k) a = a
 
   -- the shard's, of what a call leaves and answers
   abbrev pub told_of_us : Option Key → Ideal × Answer → Ideal × Answer
@@ -265,7 +265,7 @@ module _ (owner : Bytes → Key) (p : Key → Bool) where
     cut_down : trail (only_of a rule) (Held s.entries) (only s.guards) ≡ shrink of (trail (only_of a rule) s.entries s.guards)
     cut_down = trail-shard of (only_of a rule) (about-only_of of a rule about) s.entries s.guards h.owned
 
-    trailed-own : p (sender a) ≡ true → told (done (shard s)) ≡ told_of_us (some (sender a)) (done s)
+    trailed-own : p (sender a) ≡ true → told (done (shard s)) ≡ told_of_us (Some (sender a)) (done s)
     unfolding done shard trailed shrink ours our_answer
     trailed-own y =
         ap (λ (w : Trail A). ((trailed w answer).0, shown (trailed w answer).1)) cut_down
@@ -322,12 +322,12 @@ module _ (owner : Bytes → Key) (p : Key → Bool) where
   own-step s h c y = go (input_refusal c)
     where
       refusal-ours : (o : Option Key) (n : ℕ) → refused n ≡ our_answer o (refused n)
-      refusal-ours none n = refl
-      refusal-ours (some k) n = refl
+      refusal-ours None n = refl
+      refusal-ours (Some k) n = refl
 
       go : (i : Option ℕ) → told (unlessᵢ i (shard s) (effectᵢ (shard s) c)) ≡ told_of_us (key_by owner c) (unlessᵢ i s (effectᵢ s c))
-      go (some n) = ap (λ (a : Answer). (shard s, a)) (refusal-ours (key_by owner c) n)
-      go none = own-effect s h c y
+      go (Some n) = ap (λ (a : Answer). (shard s, a)) (refusal-ours (key_by owner c) n)
+      go None = own-effect s h c y
 
   -- a call that does not
   pub other_step : (s : Ideal) → Good owner s → (c : Call) → concerns p (key_by owner c) ≡ false → shard (stepᵢ s c).0 ≡ shard s
@@ -335,8 +335,8 @@ module _ (owner : Bytes → Key) (p : Key → Bool) where
   other_step s h c n = go (input_refusal c)
     where
       go : (i : Option ℕ) → shard (unlessᵢ i s (effectᵢ s c)).0 ≡ shard s
-      go (some m) = refl
-      go none = other-effect s h c n
+      go (Some m) = refl
+      go None = other-effect s h c n
 
   -- ---- a list of calls
 

@@ -2,14 +2,14 @@
 use mathlib.Core.Path.{◌≡◌, refl, ap, ◌∙◌}
 use mathlib.Core.Bool.{Bool, true, false, cond}
 use mathlib.Core.List.{List, [], ◌∷◌, ◌++◌}
-use mathlib.Core.Option.{Option, some}
+use Rattle.std.specs.Prelude.{Option, Some}
 use Rattle.lists.proofs.ByteOrder.{clash}
 use Rattle.lists.specs.Lists.{keep}
 use Rattle.lists.proofs.Keeping.{keep-cong}
 use Rattle.order_rule.specs.Orders.{Key, eq_key, is_for, of_key, Keyed, nothing, also, SameCalls}
 use Rattle.order_rule.proofs.Part.{eq_key-true}
 
-module _ {A : Type 0} (key_of : A → Option Key) (x y : A) (i j : Key) (kx : key_of x ≡ some i) (ky : key_of y ≡ some j) (differ : eq_key i j ≡ false) where
+module _ {A : Type 0} (key_of : A → Option Key) (x y : A) (i j : Key) (kx : key_of x ≡ Some i) (ky : key_of y ≡ Some j) (differ : eq_key i j ≡ false) where
   swap-same : (k : Key) (ls rs : List A) → of_key key_of k (ls ++ x ∷ y ∷ rs) ≡ of_key key_of k (ls ++ y ∷ x ∷ rs)
   unfolding of_key keep is_for
   swap-same k (z ∷ ls) rs = keep-cong (λ w. is_for k (key_of w)) z (ls ++ x ∷ y ∷ rs) (ls ++ y ∷ x ∷ rs) (swap-same k ls rs)

@@ -6,7 +6,9 @@ use mathlib.Core.Path.{◌≡◌, refl, sym, ap, ap₂, ◌∙◌, subst}
 use mathlib.Core.Bool.{Bool, true, false, not, cond, true≢false}
 use mathlib.Core.List.Memᴰ
 use mathlib.Core.List.{List, [], ◌∷◌, ◌++◌, map}
-use mathlib.Core.Option.{Option, none, some, or_else, some-ne-none}
+use Rattle.std.specs.Prelude.{Option, None, Some}
+use Rattle.std.specs.Option.{option_or}
+use Rattle.lists.proofs.Options.{some-ne-none}
 use lib.Dec.{ltb}
 use lib.ListN.{length, take, drop, length-take}
 use borrow.Author.Tests.{ltb-false, le-ltb}
@@ -51,38 +53,38 @@ abbrev pub AnswersRows : Call × Answer → Type 0
 AnswersRows t = (l : List Row) × (t.1 ≡ rows l)
 
 module _ (s : Store) (a : Bytes) (head : ℕ) (known : List ℕ) where
-  poll-thinner : Thinner (effect s (poll a head known none)).0.entries s.entries
+  poll-thinner : Thinner (effect s (poll a head known None)).0.entries s.entries
   unfolding view seen effectᵢ trailed
   poll-thinner =
-      subst (λ (r : Ideal × Answer). Thinner r.0.entries s.entries) (effect-view s (poll a head known none))
-      (trail-thinner (only_of a (poll_rule head known none)) s.entries _)
+      subst (λ (r : Ideal × Answer). Thinner r.0.entries s.entries) (effect-view s (poll a head known None))
+      (trail-thinner (only_of a (poll_rule head known None)) s.entries _)
 
   -- a poll leaves the senders no more entries than they had
   listed-fewer : (senders : Bytes) (hs : List ℕ) →
-      listed_entries senders (length hs) (effect s (poll a head known none)).0.entries ≤ listed_entries senders (length hs) s.entries
+      listed_entries senders (length hs) (effect s (poll a head known None)).0.entries ≤ listed_entries senders (length hs) s.entries
   unfolding listed_entries sum chunks
   listed-fewer senders [] = omega arith
   listed-fewer senders (h ∷ hs) = omega (arith, thinner-length (thinner-of (take 20 senders) poll-thinner), listed-fewer (drop 20 senders) hs)
 
   -- it lists no more rows than the sender has entries
-  poll-few : length (rows_of (effect s (poll a head known none)).1) ≤ length (entries_of a s.entries)
+  poll-few : length (rows_of (effect s (poll a head known None)).1) ≤ length (entries_of a s.entries)
   unfolding effect walked rows_of
-  poll-few = few-rows a head known none s.entries s.guards
+  poll-few = few-rows a head known None s.entries s.guards
 
-  poll-rows : shown (effect s (poll a head known none)).1 ≡ rows (rows_of (effect s (poll a head known none)).1)
+  poll-rows : shown (effect s (poll a head known None)).1 ≡ rows (rows_of (effect s (poll a head known None)).1)
   unfolding effect walked rows_of shown
   poll-rows = refl
 
   module _ (numbers : ℕ) (small : length known ≤ 256) (room : 19 * length (entries_of a s.entries) ≤ numbers) where
-    poll-made : step s (lent (poll a head known none) numbers) ≡ effect s (poll a head known none)
-    unfolding step unless refusal or_else input_refusal room_refusal row_width when bad_content
+    poll-made : step s (lent (poll a head known None) numbers) ≡ effect s (poll a head known None)
+    unfolding step unless refusal input_refusal room_refusal row_width when bad_content
     poll-made = rw (le-ltb 256 (length known) small, le-ltb numbers (19 * length (entries_of a s.entries)) room)
 
-    poll-fits : length (numbers_of long (step s (lent (poll a head known none) numbers)).1) ≤ 19 * length (entries_of a s.entries)
+    poll-fits : length (numbers_of long (step s (lent (poll a head known None) numbers)).1) ≤ 19 * length (entries_of a s.entries)
     unfolding row_width
     poll-fits =
-        let few : length (rows_of (step s (lent (poll a head known none) numbers)).1) ≤ length (entries_of a s.entries) = rw poll-made poll-few in
-        omega (arith, poll-length s long a head known none numbers)
+        let few : length (rows_of (step s (lent (poll a head known None) numbers)).1) ≤ length (entries_of a s.entries) = rw poll-made poll-few in
+        omega (arith, poll-length s long a head known None numbers)
 
 pub small-counts : (cs : List ℕ) → big_count cs ≡ false → Each (λ n. n ≤ 256) cs
 unfolding big_count keep is_empty
@@ -102,10 +104,10 @@ polls-answer s senders (h ∷ hs) [] nonces numbers small room = tt
 polls-answer s senders (h ∷ hs) (n ∷ ns) nonces numbers small room =
     let sender : Bytes = take 20 senders in
     let known : List ℕ = take n nonces in
-    let r : Store × Answer = step s (lent (poll sender h known none) numbers) in
+    let r : Store × Answer = step s (lent (poll sender h known None) numbers) in
     let few : length known ≤ 256 = omega (arith, length-take n nonces, small.0) in
     let here : 19 * length (entries_of sender s.entries) ≤ numbers = omega arith in
-    let made : step s (lent (poll sender h known none) numbers) ≡ effect s (poll sender h known none) = poll-made s sender h known numbers few here in
+    let made : step s (lent (poll sender h known None) numbers) ≡ effect s (poll sender h known None) = poll-made s sender h known numbers few here in
     let fewer : listed_entries (drop 20 senders) (length hs) r.0.entries ≤ listed_entries (drop 20 senders) (length hs) s.entries =
     rw made (listed-fewer s sender h known (drop 20 senders) hs) in (
       (_, ap (λ (x : Store × Answer). shown x.1) made ∙ poll-rows s sender h known),
@@ -113,14 +115,14 @@ polls-answer s senders (h ∷ hs) (n ∷ ns) nonces numbers small room =
     )
 
 -- none of them is refused
-pub sweep-answers : (s : Store) (w : Sweep) → sweep_refusal s w ≡ none → Each AnswersRows (transcript s (polls_in s w))
-unfolding sweep_refusal sweep_input_refusal sweep_room_refusal polls_in or_else when
+pub sweep-answers : (s : Store) (w : Sweep) → sweep_refusal s w ≡ None → Each AnswersRows (transcript s (polls_in s w))
+unfolding sweep_refusal sweep_input_refusal sweep_room_refusal polls_in when
 sweep-answers s w e =
     go (bad_lists w.senders w.heads w.counts) (bad_sum w.counts w.nonces) (big_count w.counts) refl
     (ltb w.numbers (19 * listed_entries w.senders (length w.heads) s.entries)) refl e
   where
     go : (b c d : Bool) → big_count w.counts ≡ d → (f : Bool) → ltb w.numbers (19 * listed_entries w.senders (length w.heads) s.entries) ≡ f →
-        or_else (or_else (when b 17) (or_else (when c 18) (when d 3))) (when f 5) ≡ none → Each AnswersRows (transcript s (in_turn s (polls_of w) w.numbers))
+        option_or (option_or (when b 17) (option_or (when c 18) (when d 3))) (when f 5) ≡ None → Each AnswersRows (transcript s (in_turn s (polls_of w) w.numbers))
     go true c d p f q e = absurd (some-ne-none 17 e)
     go false true d p f q e = absurd (some-ne-none 18 e)
     go false false true p f q e = absurd (some-ne-none 3 e)
@@ -141,15 +143,15 @@ unfolding about_room
 rows-roomy t h = rw h.1
 
 item-read : (s : Store) (i : Item) → about_room (step_item s i).1 ≡ false → Read s i
-unfolding step_item requests_of transcript run sweep_step sweep_refusal sweep_room_refusal sweep_effect unless or_else unrefused when about_room
+unfolding step_item requests_of transcript run sweep_step sweep_refusal sweep_room_refusal sweep_effect unless unrefused when about_room
 item-read s (single q) h = record { runs = refl; roomy = (room-shown (step s q).1 ∙ h, tt) }
 item-read s (sweep w) h = go (sweep_input_refusal w) refl (ltb w.numbers (19 * listed_entries w.senders (length w.heads) s.entries)) refl h
   where
     go : (o : Option ℕ) → sweep_input_refusal w ≡ o → (b : Bool) → ltb w.numbers (19 * listed_entries w.senders (length w.heads) s.entries) ≡ b →
-        about_room (unless (or_else o (when b 5)) s (sweep_effect s w)).1 ≡ false → Read s (sweep w)
-    go (some n) p b q h = record { runs = rw p; roomy = rw p tt }
-    go none p true q h = absurd (true≢false h)
-    go none p false q h = record { runs = rw (p, q); roomy = rw p (each_map AnswersRows Roomy (transcript s (polls_in s w)) rows-roomy (sweep-answers s w (rw (p, q)))) }
+        about_room (unless (option_or o (when b 5)) s (sweep_effect s w)).1 ≡ false → Read s (sweep w)
+    go (Some n) p b q h = record { runs = rw p; roomy = rw p tt }
+    go None p true q h = absurd (true≢false h)
+    go None p false q h = record { runs = rw (p, q); roomy = rw p (each_map AnswersRows Roomy (transcript s (polls_in s w)) rows-roomy (sweep-answers s w (rw (p, q)))) }
 
 polls-calls : (s : Store) (cs : List Call) (numbers : ℕ) → calls (in_turn s cs numbers) ≡ cs
 unfolding calls in_turn
@@ -164,8 +166,8 @@ item-calls s (single q) = refl
 item-calls s (sweep w) = go (sweep_input_refusal w)
   where
     go : (o : Option ℕ) → calls (unrefused o (polls_in s w)) ≡ unrefused o (polls_of w)
-    go (some n) = refl
-    go none = polls-calls s (polls_of w) w.numbers
+    go (Some n) = refl
+    go None = polls-calls s (polls_of w) w.numbers
 
 -- ---- what a list of items is read as
 
@@ -254,8 +256,8 @@ module _ (P : Store → Type 0) (kept : (s : Store) (q : Request) → P s → P 
   item-keeps s (sweep w) h = go (sweep_refusal s w)
     where
       go : (o : Option ℕ) → P (unless o s (sweep_effect s w)).0
-      go (some n) = h
-      go none = run-keeps s (polls_in s w) h
+      go (Some n) = h
+      go None = run-keeps s (polls_in s w) h
 
   pub items_keep : (s : Store) (is : List Item) → P s → P (run_items s is)
   unfolding run_items

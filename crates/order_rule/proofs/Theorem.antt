@@ -3,7 +3,7 @@ use Prim.Native.Nat.{ℕ}
 use mathlib.Core.Path.{◌≡◌, refl, sym, ap, ◌∙◌, subst, subst₂}
 use mathlib.Core.List.Memᴰ
 use mathlib.Core.List.{List, [], ◌∷◌, ◌++◌, Memᴰ}
-use mathlib.Core.Option.{Option, none, some}
+use Rattle.std.specs.Prelude.{Option, None, Some}
 use Rattle.lists.specs.Bytes.{Bytes}
 use Rattle.store_rules.specs.Store.{Store, Sorted, Call, push, Request, Answer, effect, refusal, unless, step}
 use Rattle.order_rule.specs.Orders.{Key, owner_in, pushes_of, key_by, SameCalls, TwoOrders, rest, cut, shown, InAnyOrder}
@@ -54,7 +54,7 @@ module _ (owner : Bytes → Key) where
 
   -- one stretch, a call without a key, and what comes after it
   module _ (s : Ideal) (h : Good owner s) {ls rs : List Call} (same : SameCalls (KeyOf owner) ls rs) (o : OwnedCalls owner ls) (p : OwnedCalls owner rs)
-      (g : Call) (e : KeyOf owner g ≡ none) (xs ys : List Call) (later : Agree (stepᵢ (runᵢ s ls) g).0 xs ys) where
+      (g : Call) (e : KeyOf owner g ≡ None) (xs ys : List Call) (later : Agree (stepᵢ (runᵢ s ls) g).0 xs ys) where
     joined-run : runᵢ s (ls ++ g ∷ xs) ≡ runᵢ s (rs ++ g ∷ ys)
     unfolding runᵢ
     joined-run =
@@ -111,5 +111,5 @@ unfolding step unless view seen
 step-sorted s q h = go (refusal s q)
   where
     go : (o : Option ℕ) → Sorted (unless o s (effect s q.call)).0.entries
-    go (some n) = h
-    go none = subst Sorted (ap (λ (r : Ideal × Answer). r.0.entries) (effect-view s q.call)) (effect-sorted (view s) q.call h)
+    go (Some n) = h
+    go None = subst Sorted (ap (λ (r : Ideal × Answer). r.0.entries) (effect-view s q.call)) (effect-sorted (view s) q.call h)

@@ -2,7 +2,7 @@
 use mathlib.Core.Path.{◌≡◌, refl, sym, ap, ap₂, ◌∙◌, subst, fun_ext}
 use mathlib.Core.Bool.{Bool, true, false, cond, false≢true}
 use mathlib.Core.List.{List, [], ◌∷◌, nil≢cons, head-eq_of_cons-eq, tail-eq_of_cons-eq}
-use mathlib.Core.Option.{none}
+use Rattle.std.specs.Prelude.{None}
 use Rattle.lists.specs.Bytes.{Bytes, eq_bytes, le_bytes}
 use Rattle.lists.proofs.ByteOrder.{eq_bytes-of, le_bytes-refl, le_bytes-antisym}
 use Rattle.store_rules.specs.Frames.{Entry}
@@ -64,6 +64,6 @@ module _ (owner : Bytes → Key) where
       (sorted_ext s.entries t.entries h k (λ a. ap (λ (i : Ideal). i.entries) (agree (sender a))))
       (fun_ext (λ x. go x (eq_key (owner x) (owner x)) (eq_key-refl (owner x)) (ap (λ (i : Ideal). i.guards x) (agree (owner x)))))
     where
-      go : (x : Bytes) (b : Bool) → b ≡ true → cond b (s.guards x) none ≡ cond b (t.guards x) none → s.guards x ≡ t.guards x
+      go : (x : Bytes) (b : Bool) → b ≡ true → cond b (s.guards x) None ≡ cond b (t.guards x) None → s.guards x ≡ t.guards x
       go x true p e = e
       go x false p e = absurd (false≢true p)

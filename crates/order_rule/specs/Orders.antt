@@ -3,7 +3,7 @@
 -- between, uncompared.
 use Rattle.std.specs.Prelude.{ℕ, ◌≡◌, Bool, true, false, ◌||◌, cond, eqb}
 use mathlib.Core.List.{List, [], ◌∷◌, ◌++◌, Memᴰ}
-use Rattle.std.proofs.Math.Option.{Option, none, some}
+use Rattle.std.specs.Prelude.{Option, None, Some}
 use Rattle.lists.specs.Bytes.{Bytes, eq_bytes}
 use Rattle.store_rules.specs.Frames.{Frame, Entry}
 use Rattle.lists.specs.Lists.{keep, collect}
@@ -25,18 +25,18 @@ eq_key (alone h) (alone i) = eq_bytes h i
 
 -- the frame of a push; a refused push counts as a push
 unfoldable pub push_of : Call → Option Frame
-push_of (push f) = some f
-push_of (poll a head known content) = none
-push_of (guard g) = none
-push_of (enter_tentative h c) = none
-push_of (evict_sender a) = none
-push_of (check_reorg b canonical) = none
-push_of (check_finalized n) = none
+push_of (push f) = Some f
+push_of (poll a head known content) = None
+push_of (guard g) = None
+push_of (enter_tentative h c) = None
+push_of (evict_sender a) = None
+push_of (check_reorg b canonical) = None
+push_of (check_finalized n) = None
 
 -- the sender of this push, if its frame has this hash, or else what the later calls say
 unfoldable pub owner_by : Option Frame → Bytes → Key → Key
-owner_by none h later = later
-owner_by (some f) h later = cond (eq_bytes f.hash h) (sender f.from) later
+owner_by None h later = later
+owner_by (Some f) h later = cond (eq_bytes f.hash h) (sender f.from) later
 
 -- the sender that pushes this hash in these calls, or the hash alone if none does
 unfoldable pub owner_in : List Call → Bytes → Key
@@ -51,18 +51,18 @@ pushes_of (e ∷ es) = push e.frame ∷ pushes_of es
 -- Whose a call is. A push, a poll and an eviction name their sender; a guard or an entering belongs to the sender that pushes
 -- its hash, the hash's owner; a reorganisation or a finality is no sender's.
 unfoldable pub key_by : (Bytes → Key) → Call → Option Key
-key_by owner (push f) = some (sender f.from)
-key_by owner (poll a head known content) = some (sender a)
-key_by owner (guard g) = some (owner g.hash)
-key_by owner (enter_tentative h c) = some (owner h)
-key_by owner (evict_sender a) = some (sender a)
-key_by owner (check_reorg b canonical) = none
-key_by owner (check_finalized n) = none
+key_by owner (push f) = Some (sender f.from)
+key_by owner (poll a head known content) = Some (sender a)
+key_by owner (guard g) = Some (owner g.hash)
+key_by owner (enter_tentative h c) = Some (owner h)
+key_by owner (evict_sender a) = Some (sender a)
+key_by owner (check_reorg b canonical) = None
+key_by owner (check_finalized n) = None
 
 -- whether a call is one for the keys that pass a test: a sender's call is if its key passes, a reorganisation or a finality always is
 unfoldable pub concerns : (Key → Bool) → Option Key → Bool
-concerns p none = true
-concerns p (some k) = p k
+concerns p None = true
+concerns p (Some k) = p k
 
 -- the premise on pushes: no frame hash is pushed by two senders
 abbrev pub OneSender : List Call → Type 0
@@ -73,8 +73,8 @@ OneSender cs = (f g : Frame) → Memᴰ (push f) cs → Memᴰ (push g) cs → f
 
 -- an item's key is this one
 unfoldable pub is_for : Key → Option Key → Bool
-is_for k none = false
-is_for k (some j) = eq_key j k
+is_for k None = false
+is_for k (Some j) = eq_key j k
 
 module _ {A : Type 0} (key_of : A → Option Key) where
   -- the items of one key, in their order
@@ -84,7 +84,7 @@ module _ {A : Type 0} (key_of : A → Option Key) where
   -- every item has a key: no reorganisation and no finality stands in this stretch
   pub data Keyed : List A → Type 0 where
     nothing : Keyed []
-    also : {x : A} {xs : List A} (k : Key) → key_of x ≡ some k → Keyed xs → Keyed (x ∷ xs)
+    also : {x : A} {xs : List A} (k : Key) → key_of x ≡ Some k → Keyed xs → Keyed (x ∷ xs)
 
   -- one stretch before, between or after the reorganisations and finalities: each sender has the same calls in the same order
   pub record SameCalls (s t : List A) : Type 0 where
@@ -95,7 +95,7 @@ module _ {A : Type 0} (key_of : A → Option Key) where
   -- or a stretch with the reorganisation or finality that ends it
   pub data TwoOrders : List A → List A → Type 0 where
     rest : {s t : List A} → SameCalls s t → TwoOrders s t
-    cut : {s t xs ys : List A} {g : A} → SameCalls s t → key_of g ≡ none → TwoOrders xs ys → TwoOrders (s ++ g ∷ xs) (t ++ g ∷ ys)
+    cut : {s t xs ys : List A} {g : A} → SameCalls s t → key_of g ≡ None → TwoOrders xs ys → TwoOrders (s ++ g ∷ xs) (t ++ g ∷ ys)
 
 -- ---- what is compared
 
@@ -133,8 +133,8 @@ EnoughRoom s qs = (c : Call) (a : Answer) → Memᴰ (c, a) (transcript s qs) �
 
 -- nothing, if something is refused
 unfoldable pub unrefused : {A : Type 0} → Option ℕ → List A → List A
-unrefused none l = l
-unrefused (some n) l = []
+unrefused None l = l
+unrefused (Some n) l = []
 
 -- the calls that an item is read as: a sweep as its polls, and as none if 3, 17 or 18 refuses it
 unfoldable pub calls_of : Item → List Call

@@ -2,7 +2,7 @@
 -- leave different stores. And two different lists that satisfy all of them, with two senders, a reorganisation between, and a
 -- sweep in one list for polls in the other.
 use Rattle.std.specs.Prelude.{ℕ, zero, suc, ◌*◌, ◌≡◌, List, [], ◌∷◌, ◌++◌, map, length, replicate}
-use Rattle.std.proofs.Math.Option.{none}
+use Rattle.std.specs.Prelude.{None}
 use Rattle.lists.specs.Bytes.{Bytes}
 use Rattle.lists.specs.Lists.{keep, collect}
 use Rattle.store_rules.specs.Frames.{Frame, mined, reparked}
@@ -69,7 +69,7 @@ finalized100 = ask (check_finalized 100)
 
 -- revives what entered in block 100
 unfoldable pub reorganised100 : Item
-reorganised100 = ask (check_reorg 100 none)
+reorganised100 = ask (check_reorg 100 None)
 
 -- the frame's whole gap: where it is known, a poll rescues a tracked frame
 unfoldable pub whole_gap : List ℕ
@@ -77,7 +77,7 @@ whole_gap = 5 ∷ 6 ∷ 7 ∷ []
 
 -- a poll with rows in this form, lent so many numbers
 unfoldable pub polls : RowForm → ℕ → Bytes → Item
-polls form numbers from = single (record { call = poll from 5 whole_gap none; form = form; numbers = numbers; bytes = 0 })
+polls form numbers from = single (record { call = poll from 5 whole_gap None; form = form; numbers = numbers; bytes = 0 })
 
 -- the sweep of such polls, lent so many numbers
 unfoldable pub sweeps : ℕ → List Bytes → Item

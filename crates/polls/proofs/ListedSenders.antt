@@ -1,16 +1,21 @@
 -- The loops of a sweep that count the entries of its senders.
-use Prim.Native.Nat.{ℕ, suc, ◌+◌, ◌*◌, ◌≤◌, ◌<◌}
+use Prim.Native.Nat.{ℕ, suc, ◌+◌, ◌/◌, ◌≤◌, ◌<◌}
+use native.Mathlib.Numerals.{add-one}
 use native.Mathlib.Omega.{arith}
-use mathlib.Core.Path.{◌≡◌, ap}
-use mathlib.Core.Bool.{true, false}
-use mathlib.Core.List.{List, [], map}
-use lib.ListN.{length, take, drop, get_or}
+use mathlib.Core.Path.{◌≡◌, ap, ◌∙◌}
+use borrow.Author.Tests.{ne_eqb}
+use mathlib.Core.Bool.{Bool, true, false, cond}
+use mathlib.Core.List.{List, ◌++◌, map}
+use denote.Ref.{Bor}
+use lib.ListN.{length, take, drop, get_or, length-append, drop_of_length-le}
+use lib.Seq.{drop-cons, take-append_seam, drop-append_seam}
+use Rattle.std.specs.Prelude.{None, Some}
+use Rattle.std.specs.declared.slice.ChunksExact.{ChunksExact}
+use Rattle.std.specs.Slice.Iter.{chunks_exact_rest, chunks_exact_size, chunks_exact_steps}
 use Rattle.lists.specs.Bytes.{Bytes, eq_bytes}
 use Rattle.lists.specs.Lists.{keep, sum, chunks}
-use Rattle.lists.proofs.Chunks.{chunks-length, chunks-at}
-use Rattle.lists.proofs.Compacting.{rest-on, rest-none}
-use Rattle.lists.proofs.Keeping.{rest-yes, rest-no, rest_end}
 use Rattle.lists.proofs.Sums.{rows-and-columns}
+use Rattle.lists.proofs.Turns.{eq-turn}
 use Rattle.store_rules.specs.Frames.{Entry}
 use Rattle.store_rules.specs.Lookup.{entries_of}
 use Rattle.store_rules.specs.Sweeps.{listed_entries}
@@ -19,48 +24,76 @@ use Rattle.store_rules.specs.declared.Entry as coded
 
 -- ---- how many of the senders have an address
 
-module _ (senders : Bytes) (n : ℕ) (address : Bytes) where
-  -- of the senders from place i on
-  abbrev pub times_left : ℕ → ℕ
-  times_left i = length (keep (λ a. eq_bytes address a) (drop i (chunks 20 n senders)))
+-- how many of whole senders have it
+abbrev pub times : Bytes → Bytes → ℕ
+times address senders = length (keep (λ a. eq_bytes address a) (chunks 20 (length senders / 20) senders))
 
-  module _ (i : ℕ) (h : i < n) where
-    abbrev here : Bytes
-    here = take 20 (drop (20 * i) senders)
+-- what is left of the senders still has to be counted
+pub record Times (address senders : Bytes) (s : ChunksExact ℕ) (n : ℕ) : Type 0 where
+  pub so_far : n + times address (chunks_exact_rest s) ≡ times address senders
+  pub size : chunks_exact_size s ≡ 20
+  pub few : n + length (chunks_exact_rest s) / 20 ≤ length senders / 20
 
-    within : i < length (chunks 20 n senders)
-    within = omega (arith, chunks-length 20 n senders)
+pub times-begin : (address senders : Bytes) (s : ChunksExact ℕ) → chunks_exact_rest s ≡ senders → chunks_exact_size s ≡ 20 → Times address senders s 0
+times-begin address senders s e z = record { so_far = rw e (omega arith); size = z; few = rw e (omega arith) }
 
-    pub time-more : eq_bytes address here ≡ true → times_left i ≡ suc (times_left (i + 1))
-    time-more t = ap length (rest-yes (λ a. eq_bytes address a) (chunks 20 n senders) i [] within (rw (chunks-at 20 n senders i [] h) t))
+-- two addresses that differ in the first byte
+pub first-differs : (a x : Bytes) → 0 < length a → 0 < length x → (get_or a 0 0 ≡ get_or x 0 0 → ⊥) → eq_bytes a x ≡ false
+first-differs a x h g n = eq-turn a x 0 h g ∙ rw (ne_eqb (get_or a 0 0) (get_or x 0 0) n)
 
-    pub no-time : eq_bytes address here ≡ false → times_left i ≡ times_left (i + 1)
-    no-time t = ap length (rest-no (λ a. eq_bytes address a) (chunks 20 n senders) i [] within (rw (chunks-at 20 n senders i [] h) t))
+module _ (address senders : Bytes) (s t : ChunksExact ℕ) (n : ℕ) (w : Times address senders s n) where
+  module _ (x : Bor Bytes) (step : chunks_exact_steps s (Some x) t) where
+    pub wide : length x.now ≡ 20
+    wide = step.1.1 ∙ w.size
 
-  pub times-end : (i : ℕ) → n ≤ i → times_left i ≡ 0
-  times-end i h = ap length (rest_end (λ a. eq_bytes address a) (chunks 20 n senders) i (omega (arith, chunks-length 20 n senders)))
+    count : length (chunks_exact_rest s) / 20 ≡ suc (length (chunks_exact_rest t) / 20)
+    count =
+        let e : length (chunks_exact_rest s) ≡ length x.now + length (chunks_exact_rest t) = ap length step.1.0 ∙ length-append x.now (chunks_exact_rest t) in
+        omega (arith, e, wide)
+
+    front : take 20 (x.now ++ chunks_exact_rest t) ≡ x.now
+    front = rw (← wide) (take-append_seam x.now (chunks_exact_rest t))
+
+    back : drop 20 (x.now ++ chunks_exact_rest t) ≡ chunks_exact_rest t
+    back = rw (← wide) (drop-append_seam x.now (chunks_exact_rest t))
+
+    one : (b : Bool) → eq_bytes address x.now ≡ b → times address (chunks_exact_rest s) ≡ cond b 1 0 + times address (chunks_exact_rest t)
+    unfolding chunks keep
+    one true e = rw (count, step.1.0, front, back, e) (omega arith)
+    one false e = rw (count, step.1.0, front, back, e) (omega arith)
+
+    pub time-more : eq_bytes address x.now ≡ true → Times address senders t (n + 1)
+    time-more e = record { so_far = omega (arith, w.so_far, one true e); size = step.0 ∙ w.size; few = omega (arith, w.few, count) }
+
+    pub no-time : eq_bytes address x.now ≡ false → Times address senders t n
+    no-time e = record { so_far = omega (arith, w.so_far, one false e); size = step.0 ∙ w.size; few = omega (arith, w.few, count) }
+
+  pub times-end : chunks_exact_steps s None t → n ≡ times address senders
+  unfolding chunks keep
+  times-end step =
+      let z : length (chunks_exact_rest s) / 20 ≡ 0 = omega (arith, step.1.0, w.size) in
+      omega (arith, rw z at w.so_far)
 
 -- ---- the entries of all senders
 
-module _ (senders : Bytes) (n : ℕ) where
-  -- how often an entry's sender is listed
-  abbrev pub listings : Entry → ℕ
-  listings e = times_left senders n e.frame.from 0
+-- how often an entry's sender is listed
+abbrev pub listings : Bytes → Entry → ℕ
+listings senders e = times e.frame.from senders
 
-  -- an entry counts as often as its sender is listed
-  pub listed-by-entry : (es : List Entry) → listed_entries senders n es ≡ sum (map listings es)
-  unfolding listed_entries entries_of
-  listed-by-entry es = rows-and-columns (λ (a : Bytes) (e : Entry). eq_bytes e.frame.from a) (chunks 20 n senders) es
+-- an entry counts as often as its sender is listed
+pub listed-by-entry : (senders : Bytes) (es : List Entry) → listed_entries senders (length senders / 20) es ≡ sum (map (listings senders) es)
+unfolding listed_entries entries_of
+listed-by-entry senders es = rows-and-columns (λ (a : Bytes) (e : Entry). eq_bytes e.frame.from a) (chunks 20 (length senders / 20) senders) es
 
-  -- of the entries from place i on
-  abbrev pub listed_left : List coded.Entry → ℕ → ℕ → ℕ
-  listed_left es len i = sum (map listings (map entry_of (drop i (take len es))))
+-- of the entries from place i on
+abbrev pub listed_left : Bytes → List coded.Entry → ℕ → ℕ
+listed_left senders es i = sum (map (listings senders) (map entry_of (drop i es)))
 
-  module _ (es : List coded.Entry) (len i : ℕ) where
-    pub entry_more : (d : coded.Entry) (k : ℕ) → i < len → len ≤ length es → k ≡ listings (entry_of (get_or es i d)) → listed_left es len i ≡ k + listed_left es len (i + 1)
-    unfolding sum
-    entry_more d k h b e = rw (rest-on entry_of es len i d h b, e)
+module _ (senders : Bytes) (es : List coded.Entry) (i : ℕ) where
+  pub entry_more : (d : coded.Entry) (k : ℕ) → i < length es → k ≡ listings senders (entry_of (get_or es i d)) → listed_left senders es i ≡ k + listed_left senders es (i + 1)
+  unfolding sum
+  entry_more d k h e = rw (add-one, drop-cons es i d h, e)
 
-    pub entries-end : len ≤ i → listed_left es len i ≡ 0
-    unfolding sum
-    entries-end h = rw (rest-none entry_of es len i h)
+  pub entries-end : length es ≤ i → listed_left senders es i ≡ 0
+  unfolding sum
+  entries-end h = rw (drop_of_length-le es h)

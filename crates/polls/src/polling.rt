@@ -1,32 +1,33 @@
 // The polls: with content or with none, with long rows or short ones.
-ghost use Rattle.std.specs.Prelude.{◌≡◌, true, [], length};
-ghost use Rattle.std.proofs.Math.Option.{none, some};
-ghost use Rattle.store_rules.specs.Store.{poll, short, bad_content};
-ghost use Rattle.store_rules.specs.View.{Bodies, bodies_of, content_of};
+ghost use Rattle.std.specs.Prelude.{◌≡◌, [], ◌*◌, ◌≤◌, length, None, Some};
+ghost use Rattle.store_rules.specs.Lookup.{entries_of};
+ghost use Rattle.store_rules.specs.Store.{poll, short, row_width, bad_content};
+ghost use Rattle.store_rules.specs.View.{Bodies, entries_seen};
+ghost use Rattle.guards.specs.Recording.{bodies_in};
 ghost use Rattle.decisions.specs.Courses.{form_of};
+ghost use Rattle.decisions.specs.Polls.{content_given, IsWhole, LendsBodies, asks};
 ghost use Rattle.answers.specs.Promises.{Always, AlwaysIn, HeldPerforms, HeldPerformsIn};
-ghost use Rattle.polls.specs.Promises.{Lent, rows_in};
+ghost use Rattle.polls.specs.Promises.{Passes, rows_in};
 
 use answers::{Answer, Outcome};
-use decisions::poll::{Course, course_of, stays};
+use decisions::asked::{Given, Poll};
+use decisions::poll::{course_of, stays};
 use decisions::rows::{RowForm, Telling, put_row, row_width};
-use guards::drop_guard;
+use guards::{GuardBodies, drop_guard};
 use refusal::Refusal;
-use store_rules::{Held, clamped, same_address};
+use store_rules::{Content, Held, count_of};
 
 // Whether the content is too long, or its hashes are not one a nonce.
-fn bad_content(has_content: bool, nonces: &[u64], hashes: &[u8]) -> bool
-    ensures { result ≡ bad_content (content_of has_content nonces.now hashes.now) }
+fn bad_content(given: Option<Given>) -> bool
+    ensures { result ≡ bad_content (content_given given.entry) }
 {
-    if !has_content {
-        return false;
+    match given {
+        Some(given) => {
+            let pairs = given.content.nonces.len();
+            64 < pairs || given.content.hashes.len() != 32 * pairs
+        }
+        None => false,
     }
-    let pairs = nonces.len();
-    if 64 < pairs {
-        return true;
-    }
-    let bytes = 32 * pairs;
-    hashes.len() != bytes
 }
 
 // What a poll that wrote n rows answers.
@@ -39,202 +40,176 @@ fn answer_of(form: RowForm, n: usize) -> Answer
     }
 }
 
-// A poll, which reads the guards' bodies only if content came. The sender's entries are counted first, since a refusal leaves the
-// slice alone.
+// A poll's pass over the entries, which moves those that stay to the front, and returns how many rows it wrote.
+fn pass(h: &mut Held, form: RowForm, poll: &Poll, rows: &mut [u64]) -> usize
+    requires whole { IsWhole poll.now.given }
+    requires room { row_width (form_of form) * length (entries_of poll.now.sender (entries_seen h.old)) ≤ length rows.old }
+    ensures { (bodies : Bodies) → LendsBodies poll.now.given bodies → Passes form bodies h.old poll.now rows.old result h.new rows.new }
+{
+    let width = row_width(form);
+    let mut n = 0;
+    let mut w = 0;
+    // By index: the entries move within the array that the loop reads.
+    for j in 0..h.len.min(64) {
+        // The store and its entry are read under one loan.
+        let held: &Held = h;
+        let Some(telling) = course_of(held, &held.entries[j], poll) else {
+            if w < j {
+                h.entries[w] = h.entries[j];
+            }
+            w += 1;
+            continue;
+        };
+        let start = width * n;
+        put_row(form, h.entries[j].frame, telling, poll, &mut rows[start..]);
+        n += 1;
+        let Telling::Rescued = telling else {
+            h.entries[w] = stays(h.entries[j], telling, poll.head);
+            w += 1;
+            continue;
+        };
+        let guards = h.guards;
+        let hash = h.entries[j].frame.hash;
+        drop_guard(&mut h.labels, guards, hash);
+    }
+    h.len = w;
+    n
+}
+
+// A poll of the store, which reads the guards' bodies only if content came. The sender's entries are counted first, since a refusal
+// leaves the slice alone.
 pub(crate) fn poll_inner(
+    h: &mut Held,
+    form: RowForm,
+    poll: &Poll,
+    rows: &mut [u64],
+) -> Result<Answer, Refusal>
+    ensures { (bodies : Bodies) → LendsBodies poll.now.given bodies →
+        HeldPerformsIn (form_of form) bodies h.old (asks poll.now) rows.old [] (record { answer = result; store = h.new }) rows.new [] }
+{
+    if 256 < poll.known.len() {
+        return Err(Refusal::ManyKnown);
+    }
+    if bad_content(poll.given) {
+        return Err(Refusal::BadContent);
+    }
+    let need = row_width(form) * count_of(h.frames(), poll.sender);
+    if rows.len() < need {
+        return Err(Refusal::ShortSlice);
+    }
+    let n = pass(h, form, poll, rows);
+    Ok(answer_of(form, n))
+}
+
+// A poll with no content: no guard's body is read.
+fn poll_alone(
     mut h: Held,
     form: RowForm,
     sender: [u8; 20],
     head: u64,
     known: &[u64],
-    has_content: bool,
-    nonces: &[u64],
-    hashes: &[u8],
-    numbers: &[u64],
-    contents: &[u8],
     rows: &mut [u64],
-) -> Outcome
-    requires { has_content ≡ true → (length numbers.now ≡ 1280) × (length contents.now ≡ 32768) }
-    ensures { (bodies : Bodies) → Lent has_content numbers.now contents.now bodies →
-        HeldPerformsIn (form_of form) bodies h (poll sender head known.now (content_of has_content nonces.now hashes.now))
-        rows.old [] result rows.new [] }
+) -> Outcome<Held>
+    ensures { AlwaysIn (form_of form) h (poll sender head known.now None) rows.old [] result rows.new [] }
 {
-    if 256 < known.len() {
-        return Outcome {
-            answer: Answer::Refused(Refusal::ManyKnown),
-            held: h,
-        };
-    }
-    if bad_content(has_content, nonces, hashes) {
-        return Outcome {
-            answer: Answer::Refused(Refusal::BadContent),
-            held: h,
-        };
-    }
-    let held = h.len;
-    let len = clamped(held);
-    let mut count: usize = 0;
-    let mut i: usize = 0;
-    while i < len {
-        let e = h.entries[i];
-        let frame = e.frame;
-        let from = frame.from;
-        i += 1;
-        if same_address(from, sender) {
-            count += 1;
-        }
-    }
-    let width = row_width(form);
-    let need = width * count;
-    if rows.len() < need {
-        return Outcome {
-            answer: Answer::Refused(Refusal::ShortSlice),
-            held: h,
-        };
-    }
-    let guards = h.guards;
-    let mut n: usize = 0;
-    let mut w: usize = 0;
-    let mut j: usize = 0;
-    while j < len {
-        let e = h.entries[j];
-        let frame = e.frame;
-        let old = j;
-        j += 1;
-        let course = course_of(
-            e,
-            sender,
-            head,
-            known,
-            &h.labels,
-            guards,
-            has_content,
-            nonces,
-            hashes,
-            numbers,
-            contents,
-        );
-        let Course::Tells(telling) = course else {
-            if w < old {
-                // A whole entry that is read anew is copied faster than one that was taken apart.
-                let same = h.entries[old];
-                h.entries[w] = same;
-            }
-            w += 1;
-            continue;
-        };
-        let at = width * n;
-        put_row(form, frame, telling, head, known, &mut *rows, at);
-        n += 1;
-        let Telling::Rescued = telling else {
-            let same = h.entries[old];
-            let stayed = stays(same, telling, head);
-            h.entries[w] = stayed;
-            w += 1;
-            continue;
-        };
-        let hash = frame.hash;
-        drop_guard(&mut h.labels, guards, hash);
-    }
-    h.len = w;
-    Outcome {
-        answer: answer_of(form, n),
-        held: h,
-    }
-}
-
-// A poll with no content: no guard's body is read.
-fn poll_alone(
-    h: Held,
-    form: RowForm,
-    sender: [u8; 20],
-    head: u64,
-    known: &[u64],
-    rows: &mut [u64],
-) -> Outcome
-    ensures { AlwaysIn (form_of form) h (poll sender head known.now none) rows.old [] result rows.new [] }
-{
-    let nonces = [0u64; 0];
-    let hashes = [0u8; 0];
-    let numbers = [0u64; 0];
-    let contents = [0u8; 0];
-    poll_inner(
-        h, form, sender, head, known, false, &nonces, &hashes, &numbers, &contents, rows,
-    )
+    let poll = Poll {
+        sender,
+        head,
+        known,
+        given: None,
+    };
+    let answer = poll_inner(&mut h, form, &poll, rows);
+    Outcome { answer, store: h }
 }
 
 // Polls a sender's frames at this head; the rows go to the slice.
-pub fn poll(h: Held, sender: [u8; 20], head: u64, known: &[u64], rows: &mut [u64]) -> Outcome
-    ensures { Always h (poll sender head known.now none) rows.old [] result rows.new [] }
+pub fn poll(h: Held, sender: [u8; 20], head: u64, known: &[u64], rows: &mut [u64]) -> Outcome<Held>
+    ensures { Always h (poll sender head known.now None) rows.old [] result rows.new [] }
 {
     poll_alone(h, RowForm::Long, sender, head, known, rows)
 }
 
-// The same with short rows.
-pub fn poll_short(h: Held, sender: [u8; 20], head: u64, known: &[u64], rows: &mut [u64]) -> Outcome
-    ensures { AlwaysIn short h (poll sender head known.now none) rows.old [] result rows.new [] }
+// Polls a sender's frames at this head; short rows go to the slice.
+pub fn poll_short(
+    h: Held,
+    sender: [u8; 20],
+    head: u64,
+    known: &[u64],
+    rows: &mut [u64],
+) -> Outcome<Held>
+    ensures { AlwaysIn short h (poll sender head known.now None) rows.old [] result rows.new [] }
 {
     poll_alone(h, RowForm::Short, sender, head, known, rows)
+}
+
+// A poll with content, by the guards' bodies.
+fn poll_given(
+    mut h: Held,
+    form: RowForm,
+    bodies: &GuardBodies,
+    sender: [u8; 20],
+    head: u64,
+    known: &[u64],
+    content: Content,
+    rows: &mut [u64],
+) -> Outcome<Held>
+    ensures { HeldPerformsIn (form_of form) (bodies_in bodies.now) h
+        (poll sender head known.now (Some (record { nonces = content.entry.nonces.now; hashes = content.entry.hashes.now })))
+        rows.old [] result rows.new [] }
+{
+    let poll = Poll {
+        sender,
+        head,
+        known,
+        given: Some(Given { content, bodies }),
+    };
+    let answer = poll_inner(&mut h, form, &poll, rows);
+    Outcome { answer, store: h }
 }
 
 // Polls with the current content: pairs of a nonce and a hash of 32 bytes. The guards' bodies are lent.
 pub fn poll_with_content(
     h: Held,
-    numbers: &[u64; 1280],
-    contents: &[u8; 32768],
+    bodies: &GuardBodies,
     sender: [u8; 20],
     head: u64,
     known: &[u64],
     nonces: &[u64],
     hashes: &[u8],
     rows: &mut [u64],
-) -> Outcome
-    ensures { HeldPerforms (bodies_of numbers.now contents.now) h
-        (poll sender head known.now (some (record { nonces = nonces.entry.now; hashes = hashes.now })))
+) -> Outcome<Held>
+    ensures { HeldPerforms (bodies_in bodies.now) h
+        (poll sender head known.now (Some (record { nonces = nonces.entry.now; hashes = hashes.now })))
         rows.old [] result rows.new [] }
 {
-    poll_inner(
-        h,
-        RowForm::Long,
-        sender,
-        head,
-        known,
-        true,
-        nonces,
-        hashes,
-        &numbers[..],
-        &contents[..],
-        rows,
-    )
+    let content = Content { nonces, hashes };
+    poll_given(h, RowForm::Long, bodies, sender, head, known, content, rows)
 }
 
-// The same with short rows.
+// Polls with the current content; short rows go to the slice.
 pub fn poll_short_with_content(
     h: Held,
-    numbers: &[u64; 1280],
-    contents: &[u8; 32768],
+    bodies: &GuardBodies,
     sender: [u8; 20],
     head: u64,
     known: &[u64],
     nonces: &[u64],
     hashes: &[u8],
     rows: &mut [u64],
-) -> Outcome
-    ensures { HeldPerformsIn short (bodies_of numbers.now contents.now) h
-        (poll sender head known.now (some (record { nonces = nonces.entry.now; hashes = hashes.now })))
+) -> Outcome<Held>
+    ensures { HeldPerformsIn short (bodies_in bodies.now) h
+        (poll sender head known.now (Some (record { nonces = nonces.entry.now; hashes = hashes.now })))
         rows.old [] result rows.new [] }
 {
-    poll_inner(
+    let content = Content { nonces, hashes };
+    poll_given(
         h,
         RowForm::Short,
+        bodies,
         sender,
         head,
         known,
-        true,
-        nonces,
-        hashes,
-        &numbers[..],
-        &contents[..],
+        content,
         rows,
     )
 }

@@ -1,9 +1,9 @@
 // Runs scripts of store calls from standard input, and prints what each call answers.
 #![tactic(auto)]
 
-ghost use Rattle.std.specs.Prelude.{◌≡◌, ◌≤◌, length};
+ghost use Rattle.std.specs.Prelude.{◌≤◌, ◌+◌, length, IfSome, IfOk};
 
-use console::{Input, Output};
+use console::{Output, Stop};
 use gap_quarantine::Quarantine;
 
 mod calls; // calls.rt: the calls that may change the store
@@ -14,140 +14,98 @@ mod reads; // reads.rt: the calls that only read
 // How long standard input may be.
 const INPUT: usize = 1048576;
 
-// A call that was run: its size in bytes, 0 where no call stands, and the store after it.
-#[derive(Clone, Copy)]
-struct Ran {
-    size: usize,
-    store: Quarantine,
-}
+// How long a script may be.
+const LONGEST: usize = 65536;
 
-// No call stands here.
-fn no_call(q: Quarantine) -> Ran
-    ensures { result.size ≡ 0 }
+// Runs the call that the bytes begin with, and returns its size in bytes, or None where no call stands. A mark that is none of this
+// program's own is a trace's, or none.
+fn run_call(out: &mut Output, q: &mut Quarantine, s: &[u8]) -> Option<usize>
+    ensures within { IfSome result (λ size. size ≤ length s.now) }
 {
-    Ran { size: 0, store: q }
-}
-
-// Runs the call that the bytes begin with. A mark that is none of this program's own is a trace's, or none.
-fn run_call(rt: HostRuntime, out: &mut Output, q: Quarantine, s: &[u8]) -> Ran
-    ensures { result.size ≤ length s.now }
-{
-    if s.len() < 2 {
-        return no_call(q);
+    if s.len() < 2 || s[0] != b'C' {
+        return None;
     }
-    if s[0] != b'C' {
-        return no_call(q);
-    }
-    let letter = s[1];
-    match letter {
-        b'M' => calls::short_poll(rt, out, q, s),
-        b'W' => calls::sweep(rt, out, q, s),
-        b'S' | b'B' | b'T' | b'L' | b'N' | b'C' | b'K' | b'H' | b'D' => Ran {
-            size: reads::read(rt, out, q, letter, s),
-            store: q,
-        },
-        _ => calls::trace_call(rt, out, q, letter, s),
+    match s[1] {
+        b'M' => calls::short_poll(out, q, s),
+        b'W' => calls::sweep(out, q, s),
+        letter @ (b'S' | b'B' | b'T' | b'L' | b'N' | b'C' | b'K' | b'H' | b'D') => {
+            reads::read(out, *q, letter, s)
+        }
+        letter => calls::trace_call(out, q, letter, s),
     }
 }
 
 // A script from an empty store, a line a call.
-fn run_script(rt: HostRuntime, out: &mut Output, s: &[u8]) {
+fn run_script(out: &mut Output, s: &[u8]) {
     let mut q = Quarantine::new();
-    let mut at = 0;
-    let mut place: u64 = 0;
-    while at < s.len() {
-        print::number(rt, out, place);
-        let ran = run_call(rt, out, q, &s[at..]);
-        let size = ran.size;
-        if size == 0 {
-            print::text(rt, out, b" bad\n");
+    let mut rest = s;
+    // A call has a byte at least, so there are no more calls than bytes.
+    for place in 0..s.len() {
+        if rest.is_empty() {
             return;
         }
-        print::text(rt, out, b"\n");
-        let store = ran.store;
-        q = store;
-        at += size;
-        place += 1;
+        out.number(place as u64);
+        let Some(size) = run_call(out, &mut q, rest) else {
+            out.text(b" bad\n");
+            return;
+        };
+        out.text(b"\n");
+        rest = &rest[size..];
     }
 }
 
-// The next script of standard input: its length; or the end; or input that breaks off or is over a limit; or input that cannot be read.
-#[derive(Clone, Copy)]
-enum Next {
-    Script(usize),
-    End,
-    Bad,
-    Failed,
-}
-
-// Reads a script, where so many bytes of input may still come.
-fn next_script(rt: HostRuntime, left: usize, script: &mut [u8]) -> Next {
+// Reads the next script of standard input, where so many bytes of it may still come, and returns its length, or None at the end.
+fn next_script(rt: HostRuntime, left: usize, script: &mut [u8]) -> Result<Option<usize>, Stop>
+    ensures fits { IfOk result (λ next. IfSome next (λ len. len ≤ length script.new)) }
+    ensures left { IfOk result (λ next. IfSome next (λ len. len + 4 ≤ left)) }
+{
     let mut head = [0u8; 4];
-    let Input::Read(got) = console::read_input(rt, &mut head) else {
-        return Next::Failed;
-    };
+    let got = console::read_input(rt, &mut head).ok_or(Stop::Failed)?;
     if got == 0 {
-        return Next::End;
+        return Ok(None);
     }
     if got < 4 || left < 4 {
-        return Next::Bad;
+        return Err(Stop::Bad);
     }
     let len = wire::number(&head, 0, 4) as usize;
     if script.len() < len || left - 4 < len {
-        return Next::Bad;
+        return Err(Stop::Bad);
     }
-    let Input::Read(got) = console::read_input(rt, &mut script[0..len]) else {
-        return Next::Failed;
-    };
+    let got = console::read_input(rt, &mut script[..len]).ok_or(Stop::Failed)?;
     if got < len {
-        return Next::Bad;
+        return Err(Stop::Bad);
     }
-    Next::Script(len)
+    Ok(Some(len))
 }
 
-// What is printed where no script follows.
-fn end(rt: HostRuntime, out: &mut Output, next: Next) {
-    if let Next::Bad = next {
-        print::text(rt, out, b"bad input\n");
-    }
-}
-
-// The scripts of standard input, one after another.
-fn run_scripts(rt: HostRuntime, out: &mut Output) {
-    let mut script = [0u8; 65536];
+// The scripts of standard input, one after another, each after a line with its place.
+fn run_scripts(rt: HostRuntime, out: &mut Output) -> Result<(), Stop> {
+    let mut script = [0u8; LONGEST];
     let mut left = INPUT;
-    let mut place: usize = 0;
-    while place <= INPUT {
-        let next = next_script(rt, left, &mut script);
-        let Next::Script(len) = next else {
-            end(rt, out, next);
-            return;
+    for place in 0..=INPUT {
+        let Some(len) = next_script(rt, left, &mut script)? else {
+            return Ok(());
         };
-        if 65536 < len {
-            return;
-        }
-        let used = len + 4;
-        if left < used {
-            return;
-        }
-        print::count(rt, out, b"==", place);
-        print::text(rt, out, b"\n");
-        run_script(rt, out, &script[0..len]);
-        left -= used;
-        place += 1;
+        out.count(b"==", place as u64);
+        out.text(b"\n");
+        run_script(out, &script[..len]);
+        left -= len + 4;
     }
+    Ok(())
 }
 
-// Refuses arguments, runs on an empty buffer, and writes what waits at the end.
+// Refuses arguments, runs the scripts, and writes what waits at the end.
 fn main(rt: HostRuntime) {
     if console::is_misused(
         rt,
-        console::argument_count(rt),
+        console::argument_count(&rt),
         b"usage: replay < SCRIPTS\n",
     ) {
         return;
     }
-    let mut out = [0u8; console::SIZE];
-    run_scripts(rt, &mut out);
-    console::flush(rt, &mut out);
+    let mut out = Output::new(rt);
+    if let Err(Stop::Bad) = run_scripts(rt, &mut out) {
+        out.text(b"bad input\n");
+    }
+    out.flush();
 }

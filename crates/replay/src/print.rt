@@ -1,196 +1,149 @@
 // Answers as text.
+ghost use Rattle.std.specs.Prelude.{◌<◌};
+
 use console::Output;
-pub(crate) use console::{next, number, text};
 use gap_quarantine::{Answer, FrameState, NonceConsumed, Whose};
 use refusal::Refusal;
 use trace_calls::Reply;
 
-// A word and how many are listed.
-pub(crate) fn count(rt: HostRuntime, out: &mut Output, word: &[u8], n: usize) {
-    console::count(rt, out, word, n as u64);
-}
-
-// The first so many numbers, each with a space before it.
-pub(crate) fn numbers(rt: HostRuntime, out: &mut Output, list: &[u64], count: usize) {
-    let mut i = 0;
-    while i < list.len() {
-        if count <= i {
-            return;
-        }
-        next(rt, out, list[i]);
-        i += 1;
+// Numbers, each with a space before it.
+pub(crate) fn numbers(out: &mut Output, list: &[u64]) {
+    for n in list {
+        out.next(*n);
     }
 }
 
 // Bytes as lowercase hex digits, with a space before them.
-pub(crate) fn hex(rt: HostRuntime, out: &mut Output, bytes: &[u8]) {
-    text(rt, out, b" ");
-    console::hex(rt, out, bytes);
+pub(crate) fn hex(out: &mut Output, bytes: &[u8]) {
+    out.text(b" ");
+    out.hex(bytes);
 }
 
 // A refusal by its number.
-pub(crate) fn refused(rt: HostRuntime, out: &mut Output, x: Refusal) {
-    console::count(rt, out, b"refused", refusal::number(x));
+pub(crate) fn refused(out: &mut Output, x: Refusal) {
+    out.count(b"refused", refusal::number(x));
 }
 
 // A truth value as a word.
-pub(crate) fn truth(rt: HostRuntime, out: &mut Output, b: bool) {
+pub(crate) fn truth(out: &mut Output, b: bool) {
     if b {
-        text(rt, out, b"true");
+        out.text(b"true");
     } else {
-        text(rt, out, b"false");
+        out.text(b"false");
     }
 }
 
 // The kind and the block of a consumption.
-fn consumed(rt: HostRuntime, out: &mut Output, c: NonceConsumed) {
-    match c {
-        NonceConsumed::MinedAt(b) => {
-            text(rt, out, b" 1");
-            next(rt, out, b);
-        }
-        NonceConsumed::SlotTakenAt(b) => {
-            text(rt, out, b" 2");
-            next(rt, out, b);
-        }
-        NonceConsumed::SlotTakenBy(b) => {
-            text(rt, out, b" 3");
-            next(rt, out, b);
-        }
-    }
+fn consumed(out: &mut Output, c: NonceConsumed) {
+    let (kind, block) = match c {
+        NonceConsumed::MinedAt(b) => (1, b),
+        NonceConsumed::SlotTakenAt(b) => (2, b),
+        NonceConsumed::SlotTakenBy(b) => (3, b),
+    };
+    out.next(kind);
+    out.next(block);
 }
 
 // A state: tracked, or tentative with its kind, block, block hash and taker.
-pub(crate) fn state(
-    rt: HostRuntime,
-    out: &mut Output,
-    s: FrameState,
-    block_hash: [u8; 32],
-    taker: [u8; 32],
-) {
+pub(crate) fn state(out: &mut Output, s: FrameState, block_hash: &[u8; 32], taker: &[u8; 32]) {
     let FrameState::Tentative(c) = s else {
-        text(rt, out, b"tracked");
+        out.text(b"tracked");
         return;
     };
-    text(rt, out, b"tentative");
-    consumed(rt, out, c);
-    hex(rt, out, &block_hash);
-    hex(rt, out, &taker);
+    out.text(b"tentative");
+    consumed(out, c);
+    hex(out, block_hash);
+    hex(out, taker);
 }
 
 // Whose a frame is: its sender, and its place among the sender's frames.
-pub(crate) fn whose(rt: HostRuntime, out: &mut Output, w: Whose) {
-    let sender = w.sender;
-    text(rt, out, b" of");
-    hex(rt, out, &sender);
-    next(rt, out, w.place as u64);
+pub(crate) fn whose(out: &mut Output, w: Whose) {
+    out.text(b" of");
+    hex(out, &w.sender);
+    out.next(w.place as u64);
 }
 
 // What a call answers: a word, how many it lists, and its list. Rows have 19 numbers or five; of a dead frame there are three
 // numbers and two hashes.
-pub(crate) fn answer(rt: HostRuntime, out: &mut Output, a: Answer, list: &[u64], hashes: &[u8]) {
+pub(crate) fn answer(out: &mut Output, a: Result<Answer, Refusal>, list: &[u64], hashes: &[u8]) {
     match a {
-        Answer::Total(n) => count(rt, out, b"total", n),
-        Answer::Rows(n) => {
-            count(rt, out, b"rows", n);
-            rows(rt, out, list, 19, hashes, 0, n);
+        Ok(Answer::Total(n)) => out.count(b"total", n as u64),
+        Ok(Answer::Rows(n)) => {
+            out.count(b"rows", n as u64);
+            rows(out, list, 19, n);
         }
-        Answer::ShortRows(n) => {
-            count(rt, out, b"short", n);
-            rows(rt, out, list, 5, hashes, 0, n);
+        Ok(Answer::ShortRows(n)) => {
+            out.count(b"short", n as u64);
+            rows(out, list, 5, n);
         }
-        Answer::Recorded => text(rt, out, b"done"),
-        Answer::Frames(n) => {
-            count(rt, out, b"tickets", n);
-            numbers(rt, out, list, n);
+        Ok(Answer::Recorded) => out.text(b"done"),
+        Ok(Answer::Frames(n)) => {
+            out.count(b"tickets", n as u64);
+            for ticket in list.iter().take(n) {
+                out.next(*ticket);
+            }
         }
-        Answer::Dead(n) => {
-            count(rt, out, b"dead", n);
-            rows(rt, out, list, 3, hashes, 2, n);
+        Ok(Answer::Dead(n)) => {
+            out.count(b"dead", n as u64);
+            rows_with_hashes(out, list, 3, hashes, 64, n);
         }
-        Answer::Refused(x) => refused(rt, out, x),
+        Err(x) => refused(out, x),
     }
 }
 
 // Whether a frame entered, and whose it is.
-fn entered(rt: HostRuntime, out: &mut Output, w: Whose) {
-    let found = w.found;
-    truth(rt, out, found);
-    if found {
-        whose(rt, out, w);
+fn entered(out: &mut Output, w: Option<Whose>) {
+    truth(out, w.is_some());
+    if let Some(w) = w {
+        whose(out, w);
     }
 }
 
 // What a call of a trace replies.
-pub(crate) fn reply(
-    rt: HostRuntime,
-    out: &mut Output,
-    r: Reply,
-    w: Whose,
-    list: &[u64],
-    hashes: &[u8],
-) {
+pub(crate) fn reply(out: &mut Output, r: Reply, list: &[u64], hashes: &[u8]) {
     match r {
-        Reply::Answered(a) => answer(rt, out, a, list, hashes),
-        Reply::Entered => entered(rt, out, w),
+        Reply::Answered(a) => answer(out, a, list, hashes),
+        Reply::Entered(w) => entered(out, w),
     }
 }
 
 // ---- lists
 
-// Rows of so many numbers and so many hashes of 32 bytes, each row behind a bar.
-pub(crate) fn rows(
-    rt: HostRuntime,
+// So many rows of this width, each after a bar.
+fn rows(out: &mut Output, list: &[u64], width: usize, count: usize)
+    requires { 0 < width }
+{
+    for row in list.chunks_exact(width).take(count) {
+        out.text(b" |");
+        numbers(out, row);
+    }
+}
+
+// So many rows of numbers, each after a bar, with so many bytes of hashes after it.
+pub(crate) fn rows_with_hashes(
     out: &mut Output,
     list: &[u64],
     width: usize,
     bytes: &[u8],
-    hashes: usize,
+    size: usize,
     count: usize,
-) {
-    let mut at = 0;
-    let mut from = 0;
-    let mut i = 0;
-    while i < count {
-        if list.len() - at < width {
-            return;
-        }
-        let end = at + width;
-        text(rt, out, b" |");
-        numbers(rt, out, &list[at..end], width);
-        at = end;
-        from = parts(rt, out, bytes, from, 32, hashes);
-        i += 1;
+)
+    requires numbers { 0 < width }
+    requires hashes { 0 < size }
+{
+    let rows = list.chunks_exact(width).zip(bytes.chunks_exact(size));
+    for (row, hashes) in rows.take(count) {
+        out.text(b" |");
+        numbers(out, row);
+        parts(out, hashes, 32);
     }
 }
 
-// So many parts of one width, from an offset on; the offset behind them.
-pub(crate) fn parts(
-    rt: HostRuntime,
-    out: &mut Output,
-    bytes: &[u8],
-    from: usize,
-    width: usize,
-    count: usize,
-) -> usize {
-    let mut at = from;
-    let mut i = 0;
-    while i < count {
-        at = part(rt, out, bytes, at, width);
-        i += 1;
+// The parts of this width, each with a space before it.
+pub(crate) fn parts(out: &mut Output, bytes: &[u8], width: usize)
+    requires { 0 < width }
+{
+    for part in bytes.chunks_exact(width) {
+        hex(out, part);
     }
-    at
-}
-
-// The bytes of one part, if it is there; the offset behind it.
-fn part(rt: HostRuntime, out: &mut Output, bytes: &[u8], at: usize, width: usize) -> usize {
-    if bytes.len() < at {
-        return at;
-    }
-    if bytes.len() - at < width {
-        return at;
-    }
-    let end = at + width;
-    hex(rt, out, &bytes[at..end]);
-    end
 }

@@ -4,7 +4,7 @@ use native.Mathlib.Omega.{arith}
 use mathlib.Core.Path.{◌≡◌, refl, ap, ◌∙◌}
 use mathlib.Core.Bool.{Bool, true, false, not, cond, false≢true}
 use mathlib.Core.List.{List, [], ◌∷◌}
-use mathlib.Core.Option.{some}
+use Rattle.std.specs.Prelude.{Some}
 use lib.ListN.{length}
 use Rattle.lists.specs.Bytes.{Bytes, eq_bytes}
 use Rattle.lists.specs.Lists.{keep, is_empty, Each}
@@ -28,7 +28,7 @@ unfolding guard_of drop_guard keep is_guarded
 drop-shorter h [] t = absurd (false≢true t)
 drop-shorter h (g ∷ gs) t = go (eq_bytes g.hash h) t (drop-shorter h gs)
   where
-    go : (b : Bool) → is_guarded (cond b (some g) (guard_of h gs)) ≡ true → (is_guarded (guard_of h gs) ≡ true → suc (length (drop_guard h gs)) ≤ length gs) →
+    go : (b : Bool) → is_guarded (cond b (Some g) (guard_of h gs)) ≡ true → (is_guarded (guard_of h gs) ≡ true → suc (length (drop_guard h gs)) ≤ length gs) →
         suc (length (cond (not b) (g ∷ drop_guard h gs) (drop_guard h gs))) ≤ length (g ∷ gs)
     go true q ih = let l = length-keep (λ (x : Guard). not (eq_bytes x.hash h)) gs in omega arith
     go false q ih = let l = ih q in omega arith
@@ -48,7 +48,7 @@ unfolding guard_of is_guarded
 found [] = tt
 found (g ∷ gs) = (rw (eq_bytes-refl g.hash), each_map (GuardedIn gs) (GuardedIn (g ∷ gs)) gs (λ x h. go x (eq_bytes g.hash x.hash) h) (found gs))
   where
-    go : (x : Guard) (b : Bool) → GuardedIn gs x → is_guarded (cond b (some g) (guard_of x.hash gs)) ≡ true
+    go : (x : Guard) (b : Bool) → GuardedIn gs x → is_guarded (cond b (Some g) (guard_of x.hash gs)) ≡ true
     go x true h = refl
     go x false h = h
 
@@ -58,6 +58,6 @@ none_of h [] = refl
 none_of h (g ∷ gs) = go (eq_bytes g.hash h) (none_of h gs)
   where
     go : (b : Bool) → is_empty (keep (λ x. eq_bytes x.hash h) gs) ≡ not (is_guarded (guard_of h gs)) →
-        is_empty (cond b (g ∷ keep (λ x. eq_bytes x.hash h) gs) (keep (λ x. eq_bytes x.hash h) gs)) ≡ not (is_guarded (cond b (some g) (guard_of h gs)))
+        is_empty (cond b (g ∷ keep (λ x. eq_bytes x.hash h) gs) (keep (λ x. eq_bytes x.hash h) gs)) ≡ not (is_guarded (cond b (Some g) (guard_of h gs)))
     go true ih = refl
     go false ih = ih

@@ -3,7 +3,7 @@ use Prim.Native.Nat.{ℕ, ◌≤◌}
 use mathlib.Core.Path.{◌≡◌, refl, sym, ap, ap₂, ◌∙◌, subst}
 use mathlib.Core.Bool.{Bool, true, false, cond}
 use mathlib.Core.List.{List, ◌∷◌, map, nil≢cons, head-eq_of_cons-eq, tail-eq_of_cons-eq}
-use mathlib.Core.Option.{Option, none, some}
+use Rattle.std.specs.Prelude.{Option, None, Some}
 use borrow.Author.Tests.{eq-eqb}
 use Rattle.store_rules.specs.Store.{Call, Answer}
 use Rattle.order_rule.specs.Orders.{Key, concerns}
@@ -40,8 +40,8 @@ module _ (key_of : Call → Option Key) (shard_of : Key → ℕ) (last : ℕ) (b
     answer-same = go (key_of c) refl
       where
         go : (k : Option Key) → key_of c ≡ k → merged_answer key_of shard_of last k f ≡ merged_answer key_of shard_of last k g
-        go (some k) e = heard (shard_of k) (bound k) (rw e (eq-eqb (shard_of k) (shard_of k) refl))
-        go none e = gather-same join_answers last f g (λ n l. heard n l (rw e))
+        go (Some k) e = heard (shard_of k) (bound k) (rw e (eq-eqb (shard_of k) (shard_of k) refl))
+        go None e = gather-same join_answers last f g (λ n l. heard n l (rw e))
 
   once : {told : Told} {xs ys : List (Call × Answer)} → map (λ t. t.0) xs ≡ map (λ t. t.0) ys →
       MergedFrom key_of shard_of last told xs → MergedFrom key_of shard_of last told ys → xs ≡ ys

@@ -4,7 +4,7 @@ use native.Mathlib.Omega.{arith}
 use mathlib.Core.Path.{◌≡◌, refl, ap}
 use mathlib.Core.Bool.{Bool, true, false, ◌&&◌, cond}
 use mathlib.Core.List.{List, [], ◌∷◌}
-use mathlib.Core.Option.{or_else}
+use Rattle.std.specs.Option.{option_or}
 use lib.Dec.{eqb}
 use lib.ListN.{length, get_or}
 use borrow.Author.Tests.{eqb-false}
@@ -75,7 +75,7 @@ first_byte (x ∷ xs) = get_or x.block_hash 0 0
 -- ---- the claims
 
 pub premises : Premises
-unfolding Sweeps.polls_from Sweeps.in_turn Sweeps.polls_in Sweeps.bad_lists Sweeps.bad_sum Sweeps.big_count Sweeps.sweep_input_refusal Sweeps.listed_entries Sweeps.sweep_room_refusal Sweeps.sweep_refusal Sweeps.sweep_effect Sweeps.sweep_step Sweeps.step_item run_items answers_of Answers.numbers_of Answers.row_numbers Lists.sum Lists.chunks Lists.collect Store.refusal Store.run empty Store.step Store.unless or_else Store.input_refusal Store.room_refusal Store.row_width Store.effect Store.walk Store.walked Store.insert Store.fresh Lookup.enters Lookup.found_behind Lookup.first_of Lookup.lookup Lookup.is_found Lookup.enter_with Lookup.enter_head Lookup.enter_first is_tracked Store.guard_of Store.drop_guard Store.after Store.when Store.wide_gap Store.bad_content Store.listed Lookup.entries_of keep Search.first_at Lists.is_empty Lists.is_in Lists.numbers_from eq_bytes le_bytes degraded Poll.gap Poll.predecessors Poll.unknown Poll.guard_matches Poll.stay Poll.leave Poll.row Poll.poll_full Poll.poll_in Poll.poll_given Poll.poll_rule Rules.only_of Rules.final_in Rules.final_rule key_by owner_in Orders.owner_by Orders.push_of Orders.concerns Orders.transcript Orders.shown Orders.unrefused Orders.calls_of calls_read Orders.requests_of Orders.transcript_read about_room misfits a b h Premises.i Premises.frame Premises.ask Premises.parks Premises.parks_of Premises.enters100 Premises.finalized100 Premises.whole_gap Premises.sweeps Merging.into Merging.merge gather Merging.dead_frames Shards.unlimited_step unlimited_run Shards.unlimited_transcript Shards.goes_to Splitting.with_sender Splitting.sweep_of Splitting.item_for items_for two_shards both_die two_senders one_enters one_dies finality_for_shard0 too_many enters_with beside c b_apart Queries.put_block Queries.with_block Queries.blocks_from Queries.tentative_blocks first_byte
+unfolding Sweeps.polls_from Sweeps.in_turn Sweeps.polls_in Sweeps.bad_lists Sweeps.bad_sum Sweeps.big_count Sweeps.sweep_input_refusal Sweeps.listed_entries Sweeps.sweep_room_refusal Sweeps.sweep_refusal Sweeps.sweep_effect Sweeps.sweep_step Sweeps.step_item run_items answers_of Answers.numbers_of Answers.row_numbers Lists.sum Lists.chunks Lists.collect Store.refusal Store.run empty Store.step Store.unless Store.input_refusal Store.room_refusal Store.row_width Store.effect Store.walk Store.walked Store.insert Store.fresh Lookup.enters Lookup.found_behind Lookup.first_of Lookup.lookup Lookup.is_found Lookup.enter_with Lookup.enter_head Lookup.enter_first is_tracked Store.guard_of Store.drop_guard Store.after Store.when Store.wide_gap Store.bad_content Store.listed Lookup.entries_of keep Search.first_at Lists.is_empty Lists.is_in Lists.numbers_from eq_bytes le_bytes degraded Poll.gap Poll.predecessors Poll.unknown Poll.guard_matches Poll.stay Poll.leave Poll.row Poll.poll_full Poll.poll_in Poll.poll_given Poll.poll_rule Rules.only_of Rules.final_in Rules.final_rule key_by owner_in Orders.owner_by Orders.push_of Orders.concerns Orders.transcript Orders.shown Orders.unrefused Orders.calls_of calls_read Orders.requests_of Orders.transcript_read about_room misfits a b h Premises.i Premises.frame Premises.ask Premises.parks Premises.parks_of Premises.enters100 Premises.finalized100 Premises.whole_gap Premises.sweeps Merging.into Merging.merge gather Merging.dead_frames Shards.unlimited_step unlimited_run Shards.unlimited_transcript Shards.goes_to Splitting.with_sender Splitting.sweep_of Splitting.item_for items_for two_shards both_die two_senders one_enters one_dies finality_for_shard0 too_many enters_with beside c b_apart Queries.put_block Queries.with_block Queries.blocks_from Queries.tentative_blocks first_byte
 premises = record {
   together = (both, read owners both_die, both_room);
   as_one = (sharding-rule (calls_read both_die) both two_shards 1 (split both_die) bound (read owners both_die) both_room).0;

@@ -4,7 +4,8 @@ use native.Mathlib.Omega.{arith}
 use mathlib.Core.Path.{◌≡◌, refl, sym, ap, ◌∙◌}
 use mathlib.Core.Bool.{Bool, true, false, ◌||◌, not, cond}
 use mathlib.Core.List.{List, [], ◌∷◌, ◌++◌, append-nil}
-use mathlib.Core.Option.{none, map}
+use Rattle.std.specs.Prelude.{None}
+use Rattle.std.specs.Option.{option_map}
 use lib.Dec.{eqb}
 use lib.ListN.{length}
 use borrow.Author.Tests.{eq-eqb}
@@ -106,14 +107,14 @@ module _ (owner : Bytes → Key) (shard_of : Key → ℕ) (last : ℕ) (bound : 
   block-hash : (block : ℕ) → (n : ℕ) × (n ≤ last) × (hash_of block (tentative_blocks one) ≡ hash_of block (tentative_blocks (At n)))
   unfolding tentative_blocks hash_of
   block-hash block =
-      let r = last-of-one block (λ e. shard_of (sender e.frame.from)) last (λ e. bound (sender e.frame.from)) none (λ n. none) (0, omega arith, refl) one.entries in
-      (r.0, r.1, last-hash block [] one.entries ∙ r.2 ∙ sym (last-hash block [] (At r.0).entries ∙ ap (last_hash block none) (s.held r.0 r.1)))
+      let r = last-of-one block (λ e. shard_of (sender e.frame.from)) last (λ e. bound (sender e.frame.from)) None (λ n. None) (0, omega arith, refl) one.entries in
+      (r.0, r.1, last-hash block [] one.entries ∙ r.2 ∙ sym (last-hash block [] (At r.0).entries ∙ ap (last_hash block None) (s.held r.0 r.1)))
 
-  block_listed : (block : ℕ) → hash_of block (tentative_blocks one) ≡ none → (n : ℕ) → n ≤ last → hash_of block (tentative_blocks (At n)) ≡ none
+  block_listed : (block : ℕ) → hash_of block (tentative_blocks one) ≡ None → (n : ℕ) → n ≤ last → hash_of block (tentative_blocks (At n)) ≡ None
   unfolding tentative_blocks hash_of
   block_listed block e n l =
-      last-hash block [] (At n).entries ∙ ap (last_hash block none) (s.held n l)
-      ∙ none_last block (λ x. eqb (shard_of (sender x.frame.from)) n) none one.entries (sym (last-hash block [] one.entries) ∙ e)
+      last-hash block [] (At n).entries ∙ ap (last_hash block None) (s.held n l)
+      ∙ none_last block (λ x. eqb (shard_of (sender x.frame.from)) n) None one.entries (sym (last-hash block [] one.entries) ∙ e)
 
   own : (a : Bytes) → entries_of a one.entries ≡ entries_of a (At (shard_of (sender a))).entries
   unfolding entries_of
@@ -128,7 +129,7 @@ module _ (owner : Bytes → Key) (shard_of : Key → ℕ) (last : ℕ) (bound : 
   same-guard : (a : Bytes) (e : Entry) → eq_bytes e.frame.from a ≡ true → owner e.frame.hash ≡ sender e.frame.from → HasGuardIn one e ≡ HasGuardIn (At (shard_of (sender a))) e
   same-guard a e q o =
       ap is_guarded (sym (s.guards (shard_of (sender a)) (bound (sender a)) e.frame.hash
-      ∙ ap (λ (b : Bool). cond b (guard_of e.frame.hash one.guards) none) (eq-eqb _ _ (ap shard_of (o ∙ ap sender (eq_bytes-true e.frame.from a q))))))
+      ∙ ap (λ (b : Bool). cond b (guard_of e.frame.hash one.guards) None) (eq-eqb _ _ (ap shard_of (o ∙ ap sender (eq_bytes-true e.frame.from a q))))))
 
   guarded : (a : Bytes) → has_guard_for_sender a one ≡ has_guard_for_sender a (At (shard_of (sender a)))
   unfolding has_guard_for_sender entries_of
@@ -141,8 +142,8 @@ module _ (owner : Bytes → Key) (shard_of : Key → ℕ) (last : ℕ) (bound : 
   reads : Reads owner shard_of last At one
   unfolding state_of expected_boundary len tentative_count pool_known_gap
   reads = record {
-    state = λ h. ap (map state_in) (found h);
-    expected_boundary = λ h. ap (map boundary_in) (found h);
+    state = λ h. ap (option_map state_in) (found h);
+    expected_boundary = λ h. ap (option_map boundary_in) (found h);
     pool_known_gap = λ a head pending_count. ap (λ (l : List Entry). put_numbers (collect (window head pending_count) l) []) (own a);
     has_guard_for_sender = guarded;
     senders = senders-merged;

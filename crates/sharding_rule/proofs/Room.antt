@@ -4,7 +4,9 @@ use native.Mathlib.Omega.{arith}
 use mathlib.Core.Path.{◌≡◌, refl, sym, ap, ◌∙◌}
 use mathlib.Core.Bool.{Bool, true, false, ◌&&◌, ◌||◌, not, cond, false≢true, true≢false}
 use mathlib.Core.List.{List}
-use mathlib.Core.Option.{Option, none, some, or_else, some-ne-none}
+use Rattle.std.specs.Prelude.{Option, None, Some}
+use Rattle.std.specs.Option.{option_or}
+use Rattle.lists.proofs.Options.{some-ne-none}
 use lib.Dec.{leb, ltb}
 use lib.ListN.{length}
 use borrow.Author.Tests.{ltb-false, le-ltb, leb-false, lt-leb}
@@ -36,7 +38,7 @@ effect-room s (check_reorg b canonical) = refl
 effect-room s (check_finalized n) = refl
 
 -- a refusal that comes only where another does
-weaker : (b c : Bool) (n : ℕ) → (b ≡ false → c ≡ false) → when b n ≡ none → when c n ≡ none
+weaker : (b c : Bool) (n : ℕ) → (b ≡ false → c ≡ false) → when b n ≡ None → when c n ≡ None
 unfolding when
 weaker true c n f e = absurd (some-ne-none n e)
 weaker false c n f e = rw (f refl)
@@ -60,14 +62,14 @@ listed-shown = shown-same listed (λ n. refl)
 module _ (owner : Bytes → Key) (p : Key → Bool) where
   our-fewer : (k : Option Key) (a : Answer) → listed (our_answer owner p k a) ≤ listed a
   unfolding our_answer our_list listed
-  our-fewer (some k) a = omega arith
-  our-fewer none (total n) = omega arith
-  our-fewer none (rows l) = omega arith
-  our-fewer none recorded = omega arith
-  our-fewer none (entered w) = omega arith
-  our-fewer none (frames l) = length-keep (λ (f : Frame). ours owner p f) l
-  our-fewer none (dead l) = length-keep (λ (d : Dead). ours owner p d.frame) l
-  our-fewer none (refused n) = omega arith
+  our-fewer (Some k) a = omega arith
+  our-fewer None (total n) = omega arith
+  our-fewer None (rows l) = omega arith
+  our-fewer None recorded = omega arith
+  our-fewer None (entered w) = omega arith
+  our-fewer None (frames l) = length-keep (λ (f : Frame). ours owner p f) l
+  our-fewer None (dead l) = length-keep (λ (d : Dead). ours owner p d.frame) l
+  our-fewer None (refused n) = omega arith
 
   module _ (s t : Store) (h : Good owner (view s)) (is : view t ≡ shard owner p (view s)) (d : OneGuardAHash t.guards) where
     -- ---- entries
@@ -90,7 +92,7 @@ module _ (owner : Bytes → Key) (p : Key → Bool) where
 
     -- ---- guards
 
-    guard-is : (x : Bytes) → guard_of x t.guards ≡ cond (p (owner x)) (guard_of x s.guards) none
+    guard-is : (x : Bytes) → guard_of x t.guards ≡ cond (p (owner x)) (guard_of x s.guards) None
     unfolding view shard only
     guard-is x = ap (λ (i : Ideal). i.guards x) is
 
@@ -101,7 +103,7 @@ module _ (owner : Bytes → Key) (p : Key → Bool) where
         there : (g : Guard) → GuardedIn t.guards g → GuardedIn s.guards g
         there g y = go (p (owner g.hash)) (ap is_guarded (sym (guard-is g.hash)) ∙ y)
           where
-            go : (b : Bool) → is_guarded (cond b (guard_of g.hash s.guards) none) ≡ true → GuardedIn s.guards g
+            go : (b : Bool) → is_guarded (cond b (guard_of g.hash s.guards) None) ≡ true → GuardedIn s.guards g
             go true z = z
             go false z = absurd (false≢true z)
 
@@ -129,7 +131,7 @@ module _ (owner : Bytes → Key) (p : Key → Bool) where
     Many i c = listed (effect i c).1
 
     -- a call that is never refused for its inputs lists no more
-    lists-fewer : (c : Call) → input_refusal c ≡ none → concerns p (key_by owner c) ≡ true → Many t c ≤ Many s c
+    lists-fewer : (c : Call) → input_refusal c ≡ None → concerns p (key_by owner c) ≡ true → Many t c ≤ Many s c
     unfolding stepᵢ unlessᵢ seen
     lists-fewer c e y = rw (← own, listed-shown, ideal s) at (our-fewer (key_by owner c) (shown (stepᵢ (view s) c).1))
       where
@@ -145,7 +147,7 @@ module _ (owner : Bytes → Key) (p : Key → Bool) where
     -- ---- one call
 
     has_room : (c : Call) (form : RowForm) (numbers bytes : ℕ) → concerns p (key_by owner c) ≡ true →
-        room_refusal s c form numbers bytes ≡ none → room_refusal t c form numbers bytes ≡ none
+        room_refusal s c form numbers bytes ≡ None → room_refusal t c form numbers bytes ≡ None
     unfolding room_refusal concerns key_by input_refusal
     has_room (push f) form numbers bytes y = weaker _ _ 2 (fewer-held 64 (length t.entries) (length s.entries) fewer-entries)
     has_room (poll a head known content) form numbers bytes y = λ e. rw (own-entries a y) e
@@ -161,14 +163,14 @@ module _ (owner : Bytes → Key) (p : Key → Bool) where
         (fewer-listed bytes (64 * Many t (check_finalized n)) (64 * Many s (check_finalized n)) (omega arith)))
 
     pub step_room : (q : Request) → concerns p (key_by owner q.call) ≡ true → about_room (step s q).1 ≡ false → about_room (step t q).1 ≡ false
-    unfolding step unless refusal or_else
+    unfolding step unless refusal
     step_room q y = go (input_refusal q.call) (lacks s) (room-only s q.call q.form q.numbers q.bytes) (has_room q.call q.form q.numbers q.bytes y)
       where
         lacks : Store → Option ℕ
         lacks i = room_refusal i q.call q.form q.numbers q.bytes
 
-        go : (i r : Option ℕ) → RoomOnly r → (r ≡ none → lacks t ≡ none) → about_room (unless (or_else i r) s (effect s q.call)).1 ≡ false →
-            about_room (unless (or_else i (lacks t)) t (effect t q.call)).1 ≡ false
-        go (some n) r o f e = e
-        go none (some n) o f e = clash o e
-        go none none o f e = rw (f refl) (effect-room t q.call)
+        go : (i r : Option ℕ) → RoomOnly r → (r ≡ None → lacks t ≡ None) → about_room (unless (option_or i r) s (effect s q.call)).1 ≡ false →
+            about_room (unless (option_or i (lacks t)) t (effect t q.call)).1 ≡ false
+        go (Some n) r o f e = e
+        go None (Some n) o f e = clash o e
+        go None None o f e = rw (f refl) (effect-room t q.call)

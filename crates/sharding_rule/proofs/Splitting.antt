@@ -4,7 +4,8 @@ use native.Mathlib.Omega.{arith}
 use mathlib.Core.Path.{◌≡◌, refl, sym, ap, ap₂, ◌∙◌, subst}
 use mathlib.Core.Bool.{Bool, true, false, cond, true≢false}
 use mathlib.Core.List.{List, [], ◌∷◌, ◌++◌, append-nil}
-use mathlib.Core.Option.{Option, none, some, or_else}
+use Rattle.std.specs.Prelude.{Option, None, Some}
+use Rattle.std.specs.Option.{option_or}
 use lib.Dec.{eqb, ltb}
 use lib.ListN.{length}
 use borrow.Author.Tests.{ltb-false, le-ltb}
@@ -65,15 +66,15 @@ module _ (owner : Bytes → Key) (shard_of : Key → ℕ) (n : ℕ) where
   abbrev PartOf : Sweep → Sweep
   PartOf w = sweep_of OfSender w.senders w.heads w.counts w.nonces w.numbers
 
-  goes-by-sender : (a : Bytes) (head : ℕ) (known : List ℕ) → goes_to KeyOf shard_of n (poll a head known none) ≡ OfSender a
+  goes-by-sender : (a : Bytes) (head : ℕ) (known : List ℕ) → goes_to KeyOf shard_of n (poll a head known None) ≡ OfSender a
   unfolding goes_to concerns key_by
   goes-by-sender a head known = refl
 
-  module _ (ours all : List Entry) (own : (a : Bytes) → OfSender a ≡ true → entries_of a ours ≡ entries_of a all) (w : Sweep) (e : sweep_input_refusal w ≡ none) where
+  module _ (ours all : List Entry) (own : (a : Bytes) → OfSender a ≡ true → entries_of a ours ≡ entries_of a all) (w : Sweep) (e : sweep_input_refusal w ≡ None) where
     part_of : Part OfSender (goes_to KeyOf shard_of n) goes-by-sender ours all own w.numbers w.senders w.heads w.counts w.nonces (PartOf w)
     part_of = part OfSender (goes_to KeyOf shard_of n) goes-by-sender ours all own w.numbers w.senders w.heads w.counts w.nonces ((refused-unsound w).sound e)
 
-    part-accepted : sweep_input_refusal (PartOf w) ≡ none
+    part-accepted : sweep_input_refusal (PartOf w) ≡ None
     part-accepted = (refused-unsound (PartOf w)).accepted part_of.sound
 
   -- ---- what a shard is sent is read as its calls
@@ -88,14 +89,14 @@ module _ (owner : Bytes → Key) (shard_of : Key → ℕ) (n : ℕ) where
   item-is-read (sweep w) = go (sweep_input_refusal w) refl
     where
       go : (o : Option ℕ) → sweep_input_refusal w ≡ o → calls_read (unrefused o (sweep (PartOf w) ∷ [])) ≡ calls_for KeyOf shard_of n (unrefused o (polls_of w))
-      go (some m) e = refl
-      go none e = rw (part-accepted [] [] (λ a y. refl) w e, append-nil (polls_of (PartOf w))) (part_of [] [] (λ a y. refl) w e).polls
+      go (Some m) e = refl
+      go None e = rw (part-accepted [] [] (λ a y. refl) w e, append-nil (polls_of (PartOf w))) (part_of [] [] (λ a y. refl) w e).polls
 
   -- ---- a shard of the one store has room for it
 
   module _ (s t : Store) (h : Good owner (view s)) (is : view t ≡ shard owner Of (view s)) (d : OneGuardAHash t.guards) where
-    sweep-room : (w : Sweep) → sweep_input_refusal w ≡ none → about_room (step_item s (sweep w)).1 ≡ false → about_room (step_item t (sweep (PartOf w))).1 ≡ false
-    unfolding step_item sweep_step sweep_refusal sweep_room_refusal sweep_effect unless or_else when about_room
+    sweep-room : (w : Sweep) → sweep_input_refusal w ≡ None → about_room (step_item s (sweep w)).1 ≡ false → about_room (step_item t (sweep (PartOf w))).1 ≡ false
+    unfolding step_item sweep_step sweep_refusal sweep_room_refusal sweep_effect unless when about_room
     sweep-room w e r = go (ltb w.numbers (19 * listed_entries w.senders (length w.heads) s.entries)) refl (rw e at r)
       where
         own : (a : Bytes) → OfSender a ≡ true → entries_of a t.entries ≡ entries_of a s.entries
@@ -123,8 +124,8 @@ module _ (owner : Bytes → Key) (shard_of : Key → ℕ) (n : ℕ) where
     item_room (sweep w) r = go (sweep_input_refusal w) refl
       where
         go : (o : Option ℕ) → sweep_input_refusal w ≡ o → RoomFor t (unrefused o (sweep (PartOf w) ∷ []))
-        go (some m) e = tt
-        go none e = (sweep-room w e r, tt)
+        go (Some m) e = tt
+        go None e = (sweep-room w e r, tt)
 
     -- and is, after it, the shard of the one store after the item
     item-shard : (i : Item) → OwnedCalls owner (calls_of i) → about_room (step_item s i).1 ≡ false → view (run_items t (For i)) ≡ shard owner Of (view (step_item s i).0)

@@ -5,7 +5,7 @@ use native.Mathlib.Omega.{arith}
 use mathlib.Core.Path.{◌≡◌, refl, ap, ◌∙◌}
 use mathlib.Core.Bool.{Bool, true, false, cond}
 use mathlib.Core.List.{List, [], ◌∷◌, ◌++◌}
-use mathlib.Core.Option.{none}
+use Rattle.std.specs.Prelude.{None}
 use lib.ListN.{length, take, drop, length-append, length-drop}
 use lib.Seq.{length-take-le, take-append_seam, drop-append_seam}
 use Rattle.lists.specs.Bytes.{Bytes}
@@ -23,7 +23,7 @@ take-front xs ys n e = rw (← e) (take-append_seam xs ys)
 drop-front : (xs ys : List ℕ) (n : ℕ) → length xs ≡ n → drop n (xs ++ ys) ≡ ys
 drop-front xs ys n e = rw (← e) (drop-append_seam xs ys)
 
-module _ (p : Bytes → Bool) (passes : Call → Bool) (by-sender : (a : Bytes) (head : ℕ) (known : List ℕ) → passes (poll a head known none) ≡ p a)
+module _ (p : Bytes → Bool) (passes : Call → Bool) (by-sender : (a : Bytes) (head : ℕ) (known : List ℕ) → passes (poll a head known None) ≡ p a)
     (ours all : List Entry) (own : (a : Bytes) → p a ≡ true → entries_of a ours ≡ entries_of a all) (numbers : ℕ) where
   abbrev Whole : Bytes → List ℕ → List ℕ → List ℕ → Sweep
   Whole senders heads counts nonces = record { senders = senders; heads = heads; counts = counts; nonces = nonces; numbers = numbers }
@@ -93,7 +93,7 @@ module _ (p : Bytes → Bool) (passes : Call → Bool) (by-sender : (a : Bytes) 
         drop-front A v.senders 20 address,
         take-front Known v.nonces c known,
         drop-front Known v.nonces c known,
-      ) (ap (λ (l : List Call). poll A h Known none ∷ l) r.polls);
+      ) (ap (λ (l : List Call). poll A h Known None ∷ l) r.polls);
       sound = record {
         senders = omega (arith, r.fewer, f.senders);
         bytes = omega (arith, length-append A v.senders, address, r.sound.bytes);

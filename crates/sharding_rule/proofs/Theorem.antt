@@ -5,7 +5,7 @@ use mathlib.Core.Path.{◌≡◌, refl, sym, ap, ap₂, ◌∙◌, subst, fun_ex
 use mathlib.Core.Bool.{Bool, true, false, cond, false≢true}
 use mathlib.Core.List.Memᴰ
 use mathlib.Core.List.{List, [], ◌∷◌, ◌++◌}
-use mathlib.Core.Option.{Option, none, some}
+use Rattle.std.specs.Prelude.{Option, None, Some}
 use lib.Dec.{eqb}
 use lib.ListN.{length}
 use Rattle.lists.specs.Bytes.{Bytes, eq_bytes}
@@ -41,8 +41,8 @@ unfolding stepᵢ unlimited_step unlessᵢ unless seen
 unlimited-step s c = go (input_refusal c)
   where
     go : (i : Option ℕ) → unlessᵢ i (view s) (effectᵢ (view s) c) ≡ seen (unless i s (effect s c))
-    go (some n) = refl
-    go none = effect-view s c
+    go (Some n) = refl
+    go None = effect-view s c
 
 unlimited-run : (s : Store) (cs : List Call) → runᵢ (view s) cs ≡ view (unlimited_run s cs)
 unfolding runᵢ unlimited_run seen
@@ -79,7 +79,7 @@ module _ (owner : Bytes → Key) where
   unfolding view empty shard only guard_of keep
   empty-shard p = ap (λ (G : Guards). record { entries = []; guards = G }) (fun_ext (λ h. nowhere (p (owner h))))
     where
-      nowhere : (b : Bool) → ◌≡◌ {A = Option Guard} none (cond b none none)
+      nowhere : (b : Bool) → ◌≡◌ {A = Option Guard} None (cond b None None)
       nowhere true = refl
       nowhere false = refl
 
@@ -206,8 +206,8 @@ owner-so-far [] ys h a e = absurd (false≢true (ap (λ (k : Key). eq_key k (sen
 owner-so-far (c ∷ xs) ys h a e = go (push_of c) e (owner-so-far xs ys h a)
   where
     go : (o : Option Frame) → owner_by o h (owner_in xs h) ≡ sender a → (owner_in xs h ≡ sender a → owner_in (xs ++ ys) h ≡ sender a) → owner_by o h (owner_in (xs ++ ys) h) ≡ sender a
-    go none q ih = ih q
-    go (some f) q ih = pick (eq_bytes f.hash h) q
+    go None q ih = ih q
+    go (Some f) q ih = pick (eq_bytes f.hash h) q
       where
         pick : (b : Bool) → cond b (sender f.from) (owner_in xs h) ≡ sender a → cond b (sender f.from) (owner_in (xs ++ ys) h) ≡ sender a
         pick true r = r

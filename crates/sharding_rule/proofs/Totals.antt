@@ -4,7 +4,8 @@ use native.Mathlib.Omega.{arith}
 use mathlib.Core.Path.{◌≡◌, refl, sym, ap, ap₂, ◌∙◌}
 use mathlib.Core.Bool.{Bool, true, false, cond, true≢false}
 use mathlib.Core.List.{List, [], ◌∷◌, ◌++◌, map}
-use mathlib.Core.Option.{Option, none, some, or_else}
+use Rattle.std.specs.Prelude.{Option, None, Some}
+use Rattle.std.specs.Option.{option_or}
 use lib.Dec.{ltb}
 use lib.ListN.{length, take, drop}
 use Rattle.lists.specs.Bytes.{Bytes}
@@ -41,16 +42,16 @@ module _ (of_item : Item → Answer → ℕ) (of_line : Call × Answer → ℕ)
     (of-polls : (s : Store) (w : Sweep) → Each AnswersRows (transcript s (polls_in s w)) →
     of_item (sweep w) (rows (rows_listed s (polls_in s w))) ≡ added of_line (transcript s (polls_in s w))) where
   item-adds : (s : Store) (i : Item) → about_room (step_item s i).1 ≡ false → of_item i (step_item s i).1 ≡ added of_line (transcript s (requests_of s i))
-  unfolding step_item requests_of transcript added sum sweep_step sweep_refusal sweep_room_refusal sweep_effect unless or_else unrefused when about_room
+  unfolding step_item requests_of transcript added sum sweep_step sweep_refusal sweep_room_refusal sweep_effect unless unrefused when about_room
   item-adds s (single q) h = let e = of-single q (step s q).1 in omega arith
   item-adds s (sweep w) h = go (sweep_input_refusal w) refl (ltb w.numbers (19 * listed_entries w.senders (length w.heads) s.entries)) refl h
     where
       go : (o : Option ℕ) → sweep_input_refusal w ≡ o → (b : Bool) → ltb w.numbers (19 * listed_entries w.senders (length w.heads) s.entries) ≡ b →
-          about_room (unless (or_else o (when b 5)) s (sweep_effect s w)).1 ≡ false →
-          of_item (sweep w) (unless (or_else o (when b 5)) s (sweep_effect s w)).1 ≡ added of_line (transcript s (unrefused o (polls_in s w)))
-      go (some n) p b q h = of-refused w n
-      go none p true q h = absurd (true≢false h)
-      go none p false q h = of-polls s w (sweep-answers s w (rw (p, q)))
+          about_room (unless (option_or o (when b 5)) s (sweep_effect s w)).1 ≡ false →
+          of_item (sweep w) (unless (option_or o (when b 5)) s (sweep_effect s w)).1 ≡ added of_line (transcript s (unrefused o (polls_in s w)))
+      go (Some n) p b q h = of-refused w n
+      go None p true q h = absurd (true≢false h)
+      go None p false q h = of-polls s w (sweep-answers s w (rw (p, q)))
 
   column : (s : Store) (is : List Item) → RoomFor s is → sum (map (λ x. of_item x.0 x.1) (answers s is)) ≡ added of_line (transcript_read s is)
   unfolding answers transcript_read added sum
@@ -73,7 +74,7 @@ unfolding polls_from in_turn transcript
 no-evictions s senders [] cs nonces numbers = tt
 no-evictions s senders (h ∷ hs) [] nonces numbers = tt
 no-evictions s senders (h ∷ hs) (c ∷ cs) nonces numbers =
-    let r = step s (lent (poll (take 20 senders) h (take c nonces) none) numbers) in
+    let r = step s (lent (poll (take 20 senders) h (take c nonces) None) numbers) in
     (refl, no-evictions r.0 (drop 20 senders) hs cs (drop c nonces) (numbers - length (numbers_of long r.1)))
 
 rescues-add : (s : Store) (qs : List Request) → rescued_in (rows (rows_listed s qs)) ≡ added (λ t. rescued_in t.1) (transcript s qs)

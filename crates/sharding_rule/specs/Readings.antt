@@ -2,7 +2,7 @@
 -- shards' numbers. `tentative_blocks` is not settled by the shards' answers (`Premises.blocks_of_one`): of a block it lists the hash of the
 -- last entry walked, and they do not tell whose entry that is. It is the hash that one of the shards lists.
 use Rattle.std.specs.Prelude.{ℕ, ◌+◌, ◌≤◌, ◌≡◌, List}
-use Rattle.std.proofs.Math.Option.{none}
+use Rattle.std.specs.Prelude.{None}
 use Rattle.lists.specs.Bytes.{Bytes}
 use Rattle.store_rules.specs.Frames.{Frame}
 use Rattle.store_rules.specs.Store.{Store, empty, Call, push, Answer, total, input_refusal}
@@ -21,13 +21,13 @@ pub record Reads (owner : Bytes → Key) (shard_of : Key → ℕ) (last : ℕ) (
   pub senders : senders one ≡ gather (merge (λ a. a)) last (λ n. senders (stores n))
   -- the hash of a block is one that a shard has for it, and a block that a shard lists is listed
   pub block_hash : (block : ℕ) → (n : ℕ) × (n ≤ last) × (hash_of block (tentative_blocks one) ≡ hash_of block (tentative_blocks (stores n)))
-  pub block_listed : (block : ℕ) → hash_of block (tentative_blocks one) ≡ none → (n : ℕ) → n ≤ last → hash_of block (tentative_blocks (stores n)) ≡ none
+  pub block_listed : (block : ℕ) → hash_of block (tentative_blocks one) ≡ None → (n : ℕ) → n ≤ last → hash_of block (tentative_blocks (stores n)) ≡ None
   pub len : len one ≡ gather ◌+◌ last (λ n. len (stores n))
   pub tentative_count : tentative_count one ≡ gather ◌+◌ last (λ n. tentative_count (stores n))
 
 -- a push's total is how many frames the one store then holds, and so the sum of the shards' numbers
 abbrev pub TotalRule : Type 0
-TotalRule = (s : Store) (f : Frame) → input_refusal (push f) ≡ none → (unlimited_step s (push f)).1 ≡ total (len (unlimited_step s (push f)).0)
+TotalRule = (s : Store) (f : Frame) → input_refusal (push f) ≡ None → (unlimited_step s (push f)).1 ≡ total (len (unlimited_step s (push f)).0)
 
 -- of shards that are one store, as the sharding rule says
 abbrev pub ReadsRule : Type 0

@@ -3,7 +3,7 @@
 -- what one store without limits of room does.
 use Rattle.std.specs.Prelude.{ℕ, ◌≤◌, ◌≡◌, Bool, cond, eqb}
 use mathlib.Core.List.{List, [], ◌∷◌, ◌++◌, map, Memᴰ}
-use Rattle.std.proofs.Math.Option.{Option, none, some}
+use Rattle.std.specs.Prelude.{Option, None, Some}
 use Rattle.lists.specs.Bytes.{Bytes}
 use Rattle.lists.specs.Lists.{keep, Each}
 use Rattle.store_rules.specs.Frames.{Frame, Entry}
@@ -43,8 +43,8 @@ module _ (key_of : Call → Option Key) (shard_of : Key → ℕ) where
   module _ (last : ℕ) where
     -- what the shards answer to one call
     unfoldable pub merged_answer : Option Key → (ℕ → Answer) → Answer
-    merged_answer (some k) given = given (shard_of k)
-    merged_answer none given = gather join_answers last given
+    merged_answer (Some k) given = given (shard_of k)
+    merged_answer None given = gather join_answers last given
 
     -- One transcript, put together from those of the shards: each call has the next answer of the shard that it goes to, or, if it
     -- goes to all, their next answers merged; and in the end no shard has told of another call.
@@ -82,7 +82,7 @@ pub record Sharded (owner : Bytes → Key) (shard_of : Key → ℕ) (last : ℕ)
   -- so the entries are the shards', merged in walk order
   pub entries : one.entries ≡ gather (merge (λ (e : Entry). e.frame.from)) last (λ n. (run_items empty (sent n)).entries)
   -- a hash's guard is with the shard of its owner, and with no other
-  pub guards : (n : ℕ) → n ≤ last → (h : Bytes) → guard_of h (run_items empty (sent n)).guards ≡ cond (eqb (shard_of (owner h)) n) (guard_of h one.guards) none
+  pub guards : (n : ℕ) → n ≤ last → (h : Bytes) → guard_of h (run_items empty (sent n)).guards ≡ cond (eqb (shard_of (owner h)) n) (guard_of h one.guards) None
 
 -- Keys are split over shards 0 to `last` in any way. Each shard is sent calls and sweeps that are read as its calls, lent any slices,
 -- and is not refused for want of room. Then the shards are one store without limits of room; and, where the store of document 01 has

@@ -1,7 +1,7 @@
 -- Splitting adds no refusal. What a host may send to each shard, lent the slices that it would lend to one store, is `items_for`; the
 -- claims are `SplitIsRead` and `SplittingRule`.
 use Rattle.std.specs.Prelude.{ℕ, ◌≤◌, ◌≡◌, Bool, cond, List, [], ◌∷◌, ◌++◌, eqb, take, drop}
-use Rattle.std.proofs.Math.Option.{Option}
+use Rattle.std.specs.Prelude.{Option}
 use Rattle.lists.specs.Bytes.{Bytes}
 use Rattle.lists.specs.Lists.{collect}
 use Rattle.store_rules.specs.Store.{empty, Call}

@@ -4,8 +4,8 @@ use native.Mathlib.Nat.{div-add-mod', mod-lt, zero-lt-suc, div-lt_iff_lt-mul, po
 use native.Mathlib.Omega.{arith}
 use mathlib.Core.Path.{◌≡◌, refl, sym, ◌∙◌}
 use mathlib.Core.Bool.{Bool, true, false, cond}
-use mathlib.Core.List.{List, [], ◌∷◌, ◌++◌, append_assoc, append-nil, head?}
-use mathlib.Core.Option.{Option, none, some}
+use mathlib.Core.List.{List, [], ◌∷◌, ◌++◌, append_assoc, append-nil}
+use Rattle.std.specs.Prelude.{Option, None, Some, slice_get}
 use lib.Count.{count_trailing_zeros, under}
 use lib.Dec.{eqb, leb}
 use lib.ListN.{replicate, set}
@@ -89,24 +89,24 @@ none-beyond (suc k) n bits h = go (eqb (bits % 2) 1) (none-beyond k (suc n) (bit
 
 -- a number that is a nonce, or none
 abbrev as_nonce : ℕ → Option ℕ
-as_nonce n = cond (is_nonce n) (some n) none
+as_nonce n = cond (is_nonce n) (Some n) None
 
-first_of : (n : ℕ) (ns : List ℕ) → (is_nonce n ≡ false → keep is_nonce ns ≡ []) → head? (keep is_nonce (n ∷ ns)) ≡ as_nonce n
+first_of : (n : ℕ) (ns : List ℕ) → (is_nonce n ≡ false → keep is_nonce ns ≡ []) → slice_get (keep is_nonce (n ∷ ns)) 0 ≡ as_nonce n
 unfolding keep
 first_of n ns h = go (is_nonce n) refl
   where
-    go : (b : Bool) → is_nonce n ≡ b → head? (cond b (n ∷ keep is_nonce ns) (keep is_nonce ns)) ≡ cond b (some n) none
+    go : (b : Bool) → is_nonce n ≡ b → slice_get (cond b (n ∷ keep is_nonce ns) (keep is_nonce ns)) 0 ≡ cond b (Some n) None
     go true e = refl
     go false e = rw (h e)
 
 -- of bits that are not all zero
-lowest_set : (k n bits : ℕ) → bits < 2 ^ k → (bits ≡ 0 → ⊥) → head? (keep is_nonce (set_from k n bits)) ≡ as_nonce (n + count_trailing_zeros k bits)
+lowest_set : (k n bits : ℕ) → bits < 2 ^ k → (bits ≡ 0 → ⊥) → slice_get (keep is_nonce (set_from k n bits)) 0 ≡ as_nonce (n + count_trailing_zeros k bits)
 unfolding set_from count_trailing_zeros
 lowest_set zero n bits h z = absurd (z (omega arith))
 lowest_set (suc k) n bits h z = go (bits % 2) refl (mod-lt bits (zero-lt-suc 1)) (lowest_set k (suc n) (bits / 2) ((div-lt_iff_lt-mul (zero-lt-suc 1)).1 (rw (← pow-suc 2 k) h)))
   where
-    go : (b : ℕ) → bits % 2 ≡ b → b < 2 → ((bits / 2 ≡ 0 → ⊥) → head? (keep is_nonce (set_from k (suc n) (bits / 2))) ≡ as_nonce (suc n + count_trailing_zeros k (bits / 2))) →
-        head? (keep is_nonce (cond (eqb b 1) (n ∷ set_from k (suc n) (bits / 2)) (set_from k (suc n) (bits / 2)))) ≡ as_nonce (n + under b (count_trailing_zeros k (bits / 2)))
+    go : (b : ℕ) → bits % 2 ≡ b → b < 2 → ((bits / 2 ≡ 0 → ⊥) → slice_get (keep is_nonce (set_from k (suc n) (bits / 2))) 0 ≡ as_nonce (suc n + count_trailing_zeros k (bits / 2))) →
+        slice_get (keep is_nonce (cond (eqb b 1) (n ∷ set_from k (suc n) (bits / 2)) (set_from k (suc n) (bits / 2)))) 0 ≡ as_nonce (n + under b (count_trailing_zeros k (bits / 2)))
     go zero e b ih =
         let s : n + suc (count_trailing_zeros k (bits / 2)) ≡ suc n + count_trailing_zeros k (bits / 2) = omega arith in
         rw s (ih (λ q. z (omega (arith, div-add-mod' bits 2, q, e))))
@@ -121,15 +121,15 @@ none-set zero n = refl
 none-set (suc k) n = none-set k (suc n)
 
 module _ (expected : ℕ) where
-  pub first-of-none : none ≡ head? (nonces_read expected 0)
+  pub first-of-none : None ≡ slice_get (nonces_read expected 0) 0
   unfolding nonces_read marked_nonces keep
   first-of-none = rw (none-set 16 expected)
 
   module _ (mark : ℕ) (fits : mark < 2 ^ 16) (some-set : mark ≡ 0 → ⊥) where
-    pub first-beyond : is_nonce (expected + count_trailing_zeros 16 mark) ≡ false → none ≡ head? (nonces_read expected mark)
+    pub first-beyond : is_nonce (expected + count_trailing_zeros 16 mark) ≡ false → None ≡ slice_get (nonces_read expected mark) 0
     unfolding nonces_read marked_nonces
     first-beyond h = sym (lowest_set 16 expected mark fits some-set ∙ rw h)
 
-    pub first-is : is_nonce (expected + count_trailing_zeros 16 mark) ≡ true → some (expected + count_trailing_zeros 16 mark) ≡ head? (nonces_read expected mark)
+    pub first-is : is_nonce (expected + count_trailing_zeros 16 mark) ≡ true → Some (expected + count_trailing_zeros 16 mark) ≡ slice_get (nonces_read expected mark) 0
     unfolding nonces_read marked_nonces
     first-is h = sym (lowest_set 16 expected mark fits some-set ∙ rw h)

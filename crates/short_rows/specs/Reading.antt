@@ -1,11 +1,8 @@
 -- What the functions that read a short row answer.
 use Rattle.std.specs.Prelude.{ℕ, ◌^◌, ◌≡◌, Bool, List, ltb, length, replicate}
-use Rattle.std.proofs.Math.Option.{Option, none, some}
 use Rattle.lists.specs.Lists.{keep, written}
 use Rattle.short_rows.specs.Mark.{marked_nonces}
 use Rattle.short_rows.specs.declared.Nonces.{Nonces}
-use Rattle.short_rows.specs.declared.FirstNonce.{FirstNonce}
-use Rattle.short_rows.specs.declared.FirstNonce.TheVariants.{None, At}
 
 -- a nonce has 64 bits
 abbrev pub is_nonce : ℕ → Bool
@@ -20,8 +17,3 @@ nonces_read expected mark = keep is_nonce (marked_nonces expected mark)
 pub record Lists (l : List ℕ) (r : Nonces) : Type 0 where
   pub count : r.count ≡ length l
   pub at : r.at ≡ written l (replicate 16 0)
-
--- the first of them, or none
-abbrev pub first_seen : FirstNonce → Option ℕ
-first_seen None = none
-first_seen (At n) = some n

@@ -2,164 +2,132 @@
 use super::print::Name;
 use super::{MARK, print, tentative, tracked};
 use console::Output;
+use gap_quarantine::{Outcome, Quarantine};
 
-// A poll that rescues both frames: 19 numbers each.
-fn poll(rt: HostRuntime, out: &mut Output, rows: &mut [u64]) {
-    let q = tracked();
-    let known = [0u64; 0];
-    print::call(rt, out, b"poll", rows.len());
-    let r = q.poll([1u8; 20], 8, &known, &mut *rows);
-    let answer = r.answer;
-    let after = r.store;
-    print::answer(rt, out, answer);
-    print::numbers(rt, out, Name::Only, rows, 38);
-    print::stores(rt, out, q, after);
+// The longest slice of numbers that is lent.
+const LONGEST: usize = 79;
+
+// A call on a store that lists numbers, lent a slice of this length, and whether its list, of that length, is written.
+pub(crate) fn listing<F: FnOnce(Quarantine, &mut [u64]) -> Outcome<Quarantine>>(
+    out: &mut Output,
+    name: &[u8],
+    q: Quarantine,
+    lent: usize,
+    list: usize,
+    call: F,
+)
+    requires { F.IsAlwaysCallable call }
+{
+    let mut numbers = [u64::from(MARK); LONGEST];
+    let slice = &mut numbers[..lent.min(LONGEST)];
+    print::call(out, name, slice.len());
+    let r = call(q, &mut *slice);
+    print::answer(out, r.answer);
+    print::slice(out, Name::Only, slice, list);
+    print::stores(out, q, r.store);
 }
 
-// The same with content.
-fn poll_with_content(rt: HostRuntime, out: &mut Output, rows: &mut [u64]) {
-    let q = tracked();
-    let known = [0u64; 0];
-    let nonces = [7u64; 1];
-    let hashes = [9u8; 32];
-    print::call(rt, out, b"poll_with_content", rows.len());
-    let r = q.poll_with_content([1u8; 20], 8, &known, &nonces, &hashes, &mut *rows);
-    let answer = r.answer;
-    let after = r.store;
-    print::answer(rt, out, answer);
-    print::numbers(rt, out, Name::Only, rows, 38);
-    print::stores(rt, out, q, after);
+// A poll that rescues both frames: 19 numbers each.
+fn poll(out: &mut Output, lent: usize) {
+    listing(out, b"poll", tracked(), lent, 38, |q, rows| {
+        q.poll([1; 20], 8, &[], rows)
+    });
+}
+
+// A poll with content that rescues both frames: 19 numbers each.
+fn poll_with_content(out: &mut Output, lent: usize) {
+    listing(out, b"poll_with_content", tracked(), lent, 38, |q, rows| {
+        q.poll_with_content([1; 20], 8, &[], &[7], &[9; 32], rows)
+    });
 }
 
 // A poll that rescues both frames with short rows: five numbers each.
-fn poll_short(rt: HostRuntime, out: &mut Output, rows: &mut [u64]) {
-    let q = tracked();
-    let known = [0u64; 0];
-    print::call(rt, out, b"poll_short", rows.len());
-    let r = q.poll_short([1u8; 20], 8, &known, &mut *rows);
-    let answer = r.answer;
-    let after = r.store;
-    print::answer(rt, out, answer);
-    print::numbers(rt, out, Name::Only, rows, 10);
-    print::stores(rt, out, q, after);
+fn poll_short(out: &mut Output, lent: usize) {
+    listing(out, b"poll_short", tracked(), lent, 10, |q, rows| {
+        q.poll_short([1; 20], 8, &[], rows)
+    });
 }
 
-// The same with content.
-fn poll_short_with_content(rt: HostRuntime, out: &mut Output, rows: &mut [u64]) {
-    let q = tracked();
-    let known = [0u64; 0];
-    let nonces = [7u64; 1];
-    let hashes = [9u8; 32];
-    print::call(rt, out, b"poll_short_with_content", rows.len());
-    let r = q.poll_short_with_content([1u8; 20], 8, &known, &nonces, &hashes, &mut *rows);
-    let answer = r.answer;
-    let after = r.store;
-    print::answer(rt, out, answer);
-    print::numbers(rt, out, Name::Only, rows, 10);
-    print::stores(rt, out, q, after);
+// A poll with content that rescues both frames with short rows: five numbers each.
+fn poll_short_with_content(out: &mut Output, lent: usize) {
+    listing(
+        out,
+        b"poll_short_with_content",
+        tracked(),
+        lent,
+        10,
+        |q, rows| { q.poll_short_with_content([1; 20], 8, &[], &[7], &[9; 32], rows) },
+    );
 }
 
 // The polls, lent a slice that is one number short, and one that is just long enough.
-pub(crate) fn polls(rt: HostRuntime, out: &mut Output) {
-    let mut short = [MARK as u64; 37];
-    poll(rt, out, &mut short);
-    let mut whole = [MARK as u64; 38];
-    poll(rt, out, &mut whole);
-    let mut short = [MARK as u64; 37];
-    poll_with_content(rt, out, &mut short);
-    let mut whole = [MARK as u64; 38];
-    poll_with_content(rt, out, &mut whole);
-    let mut short = [MARK as u64; 9];
-    poll_short(rt, out, &mut short);
-    let mut whole = [MARK as u64; 10];
-    poll_short(rt, out, &mut whole);
-    let mut short = [MARK as u64; 9];
-    poll_short_with_content(rt, out, &mut short);
-    let mut whole = [MARK as u64; 10];
-    poll_short_with_content(rt, out, &mut whole);
+pub(crate) fn polls(out: &mut Output) {
+    poll(out, 37);
+    poll(out, 38);
+    poll_with_content(out, 37);
+    poll_with_content(out, 38);
+    poll_short(out, 9);
+    poll_short(out, 10);
+    poll_short_with_content(out, 9);
+    poll_short_with_content(out, 10);
 }
 
 // The eviction of the sender: a ticket each.
-fn evict(rt: HostRuntime, out: &mut Output, tickets: &mut [u64]) {
-    let q = tracked();
-    print::call(rt, out, b"evict_sender", tickets.len());
-    let r = q.evict_sender([1u8; 20], &mut *tickets);
-    let answer = r.answer;
-    let after = r.store;
-    print::answer(rt, out, answer);
-    print::numbers(rt, out, Name::Only, tickets, 2);
-    print::stores(rt, out, q, after);
+fn evict(out: &mut Output, lent: usize) {
+    listing(out, b"evict_sender", tracked(), lent, 2, |q, tickets| {
+        q.evict_sender([1; 20], tickets)
+    });
 }
 
-// The same of the eviction.
-pub(crate) fn evictions(rt: HostRuntime, out: &mut Output) {
-    let mut short = [MARK as u64; 1];
-    evict(rt, out, &mut short);
-    let mut whole = [MARK as u64; 2];
-    evict(rt, out, &mut whole);
+// The eviction, lent a slice that is one ticket short, and one that is just long enough.
+pub(crate) fn evictions(out: &mut Output) {
+    evict(out, 1);
+    evict(out, 2);
 }
 
 // The reorganisation that revives both frames: a ticket each.
-fn reorganise(rt: HostRuntime, out: &mut Output, tickets: &mut [u64]) {
-    let q = tentative(100, 100);
-    print::call(rt, out, b"check_reorg", tickets.len());
-    let r = q.check_reorg(100, false, [0u8; 32], &mut *tickets);
-    let answer = r.answer;
-    let after = r.store;
-    print::answer(rt, out, answer);
-    print::numbers(rt, out, Name::Only, tickets, 2);
-    print::stores(rt, out, q, after);
+fn reorganise(out: &mut Output, lent: usize) {
+    listing(
+        out,
+        b"check_reorg",
+        tentative(100, 100),
+        lent,
+        2,
+        |q, tickets| { q.check_reorg(100, None, tickets) },
+    );
 }
 
-// The same of the reorganisation.
-pub(crate) fn reorganisations(rt: HostRuntime, out: &mut Output) {
-    let mut short = [MARK as u64; 1];
-    reorganise(rt, out, &mut short);
-    let mut whole = [MARK as u64; 2];
-    reorganise(rt, out, &mut whole);
+// The reorganisation, lent a slice that is one ticket short, and one that is just long enough.
+pub(crate) fn reorganisations(out: &mut Output) {
+    reorganise(out, 1);
+    reorganise(out, 2);
 }
 
 // The finality that ends both frames: 3 numbers and 64 bytes each.
-fn finalise(rt: HostRuntime, out: &mut Output, numbers: &mut [u64], bytes: &mut [u8]) {
+fn finalise(out: &mut Output, numbers: &mut [u64], bytes: &mut [u8]) {
     let q = tentative(100, 100);
-    print::call_with_bytes(rt, out, b"check_finalized", numbers.len(), bytes.len());
+    print::call_with_bytes(out, b"check_finalized", numbers.len(), bytes.len());
     let r = q.check_finalized(100, &mut *numbers, &mut *bytes);
-    let answer = r.answer;
-    let after = r.store;
-    print::answer(rt, out, answer);
-    print::numbers(rt, out, Name::Numbers, numbers, 6);
-    print::bytes(rt, out, Name::Bytes, bytes, 128);
-    print::stores(rt, out, q, after);
+    print::answer(out, r.answer);
+    print::slice(out, Name::Numbers, numbers, 6);
+    print::slice(out, Name::Bytes, bytes, 128);
+    print::stores(out, q, r.store);
 }
 
-// The same of finality, with either slice short.
-pub(crate) fn finalities(rt: HostRuntime, out: &mut Output) {
-    let mut short = [MARK as u64; 5];
-    let mut bytes = [MARK; 128];
-    finalise(rt, out, &mut short, &mut bytes);
-    let mut numbers = [MARK as u64; 6];
-    let mut short = [MARK; 127];
-    finalise(rt, out, &mut numbers, &mut short);
-    let mut numbers = [MARK as u64; 6];
-    let mut bytes = [MARK; 128];
-    finalise(rt, out, &mut numbers, &mut bytes);
+// Finality, with either slice one element short, and with both just long enough.
+pub(crate) fn finalities(out: &mut Output) {
+    finalise(out, &mut [u64::from(MARK); 5], &mut [MARK; 128]);
+    finalise(out, &mut [u64::from(MARK); 6], &mut [MARK; 127]);
+    finalise(out, &mut [u64::from(MARK); 6], &mut [MARK; 128]);
 }
 
 // Each call, lent slices that are three elements longer than their lists.
-pub(crate) fn longer(rt: HostRuntime, out: &mut Output) {
-    let mut rows = [MARK as u64; 41];
-    poll(rt, out, &mut rows);
-    let mut rows = [MARK as u64; 41];
-    poll_with_content(rt, out, &mut rows);
-    let mut rows = [MARK as u64; 13];
-    poll_short(rt, out, &mut rows);
-    let mut rows = [MARK as u64; 13];
-    poll_short_with_content(rt, out, &mut rows);
-    let mut tickets = [MARK as u64; 5];
-    evict(rt, out, &mut tickets);
-    let mut tickets = [MARK as u64; 5];
-    reorganise(rt, out, &mut tickets);
-    let mut numbers = [MARK as u64; 9];
-    let mut bytes = [MARK; 131];
-    finalise(rt, out, &mut numbers, &mut bytes);
+pub(crate) fn longer(out: &mut Output) {
+    poll(out, 41);
+    poll_with_content(out, 41);
+    poll_short(out, 13);
+    poll_short_with_content(out, 13);
+    evict(out, 5);
+    reorganise(out, 5);
+    finalise(out, &mut [u64::from(MARK); 9], &mut [MARK; 131]);
 }

@@ -2,7 +2,6 @@
 use Prim.Native.Nat.{ℕ, ◌≤◌}
 use mathlib.Core.Path.{◌≡◌, refl}
 use mathlib.Core.Bool.{Bool, true, false}
-use mathlib.Core.Option.{or_else}
 use native.Mathlib.Omega.{arith}
 use lib.Dec.{ltb}
 use Rattle.lists.specs.Bytes as bytes
@@ -31,7 +30,7 @@ pub record Computed : Type 0 where
   pub ends : told (after (pushed 8) mining) (check_finalized 100) 3 64 ≡ 1
 
 pub computed : Computed
-unfolding bytes.eq_bytes bytes.le_bytes lists.keep lists.is_empty lists.is_in lists.numbers_from frames.degraded polls.gap polls.predecessors polls.unknown polls.first_is polls.contents_hold polls.content_matches polls.boundary_holds polls.guard_matches polls.stay polls.leave polls.row polls.poll_full polls.poll_in polls.poll_given polls.poll_rule rules.only_of rules.evict_rule rules.final_in rules.final_rule stores.empty stores.guard_of stores.drop_guard stores.put_guard stores.after stores.walk stores.walked stores.fresh stores.insert frames.is_tracked search.first_at lookups.entries_of lookups.enters lookups.found_behind lookups.first_of lookups.lookup lookups.is_found lookups.enter_with lookups.enter_head lookups.enter_first stores.effect stores.when or_else stores.wide_gap stores.bad_content stores.bad_contents stores.no_room_for stores.input_refusal stores.listed stores.room_refusal stores.row_width stores.refusal stores.unless stores.step answers.said filled guarded_by
+unfolding bytes.eq_bytes bytes.le_bytes lists.keep lists.is_empty lists.is_in lists.numbers_from frames.degraded polls.gap polls.predecessors polls.unknown polls.first_is polls.contents_hold polls.content_matches polls.boundary_holds polls.guard_matches polls.stay polls.leave polls.row polls.poll_full polls.poll_in polls.poll_given polls.poll_rule rules.only_of rules.evict_rule rules.final_in rules.final_rule stores.empty stores.guard_of stores.drop_guard stores.put_guard stores.after stores.walk stores.walked stores.fresh stores.insert frames.is_tracked search.first_at lookups.entries_of lookups.enters lookups.found_behind lookups.first_of lookups.lookup lookups.is_found lookups.enter_with lookups.enter_head lookups.enter_first stores.effect stores.when stores.wide_gap stores.bad_content stores.bad_contents stores.no_room_for stores.input_refusal stores.listed stores.room_refusal stores.row_width stores.refusal stores.unless stores.step answers.said filled guarded_by
 computed =
     record {
       polled = record { store = refl; seen = refl };
@@ -53,7 +52,7 @@ pub record Polled (n : ℕ) : Type 0 where
   pub enters : told (pushed n) mining 0 0 ≡ 1
 
 by_size : (a b : Bool) → Polled (size_of a b)
-unfolding bytes.eq_bytes bytes.le_bytes lists.keep lists.is_empty lists.is_in lists.numbers_from frames.degraded polls.gap polls.predecessors polls.unknown polls.first_is polls.contents_hold polls.content_matches polls.boundary_holds polls.guard_matches polls.stay polls.leave polls.row polls.poll_full polls.poll_in polls.poll_given polls.poll_rule rules.only_of rules.evict_rule rules.final_in rules.final_rule stores.empty stores.guard_of stores.drop_guard stores.put_guard stores.after stores.walk stores.walked stores.fresh stores.insert frames.is_tracked search.first_at lookups.entries_of lookups.enters lookups.found_behind lookups.first_of lookups.lookup lookups.is_found lookups.enter_with lookups.enter_head lookups.enter_first stores.effect stores.when or_else stores.wide_gap stores.bad_content stores.bad_contents stores.no_room_for stores.input_refusal stores.listed stores.room_refusal stores.row_width stores.refusal stores.unless stores.step answers.said filled guarded_by
+unfolding bytes.eq_bytes bytes.le_bytes lists.keep lists.is_empty lists.is_in lists.numbers_from frames.degraded polls.gap polls.predecessors polls.unknown polls.first_is polls.contents_hold polls.content_matches polls.boundary_holds polls.guard_matches polls.stay polls.leave polls.row polls.poll_full polls.poll_in polls.poll_given polls.poll_rule rules.only_of rules.evict_rule rules.final_in rules.final_rule stores.empty stores.guard_of stores.drop_guard stores.put_guard stores.after stores.walk stores.walked stores.fresh stores.insert frames.is_tracked search.first_at lookups.entries_of lookups.enters lookups.found_behind lookups.first_of lookups.lookup lookups.is_found lookups.enter_with lookups.enter_head lookups.enter_first stores.effect stores.when stores.wide_gap stores.bad_content stores.bad_contents stores.no_room_for stores.input_refusal stores.listed stores.room_refusal stores.row_width stores.refusal stores.unless stores.step answers.said filled guarded_by
 by_size true b = record { few = omega arith; waits = refl; waits-short = refl; held_back = refl; rescued = refl; enters = refl }
 by_size false true = record { few = omega arith; waits = refl; waits-short = refl; held_back = refl; rescued = refl; enters = refl }
 by_size false false = record { few = omega arith; waits = refl; waits-short = refl; held_back = refl; rescued = refl; enters = refl }
@@ -67,5 +66,5 @@ pub record Swept : Type 0 where
   pub seen : counted (said long (sweep_step (lone 64) sweeping).1) ≡ 64
 
 pub swept : Swept
-unfolding bytes.eq_bytes bytes.le_bytes lists.keep lists.is_empty lists.is_in lists.numbers_from lists.sum lists.chunks frames.degraded polls.gap polls.predecessors polls.unknown polls.guard_matches polls.stay polls.leave polls.row polls.poll_full polls.poll_in polls.poll_given polls.poll_rule rules.only_of stores.empty stores.guard_of stores.drop_guard stores.after stores.walk stores.walked stores.fresh stores.insert lookups.entries_of stores.effect stores.when or_else stores.wide_gap stores.bad_content stores.input_refusal stores.listed stores.rows_of stores.room_refusal stores.row_width stores.refusal stores.unless stores.step stores.run answers.said answers.numbers_of answers.row_numbers answers.decision_number lists.collect sweeps.polls_from sweeps.in_turn sweeps.polls_in sweeps.rows_listed sweeps.bad_lists sweeps.bad_sum sweeps.big_count sweeps.sweep_input_refusal sweeps.listed_entries sweeps.sweep_room_refusal sweeps.sweep_refusal sweeps.sweep_effect sweeps.sweep_step filled addresses
+unfolding bytes.eq_bytes bytes.le_bytes lists.keep lists.is_empty lists.is_in lists.numbers_from lists.sum lists.chunks frames.degraded polls.gap polls.predecessors polls.unknown polls.guard_matches polls.stay polls.leave polls.row polls.poll_full polls.poll_in polls.poll_given polls.poll_rule rules.only_of stores.empty stores.guard_of stores.drop_guard stores.after stores.walk stores.walked stores.fresh stores.insert lookups.entries_of stores.effect stores.when stores.wide_gap stores.bad_content stores.input_refusal stores.listed stores.rows_of stores.room_refusal stores.row_width stores.refusal stores.unless stores.step stores.run answers.said answers.numbers_of answers.row_numbers answers.decision_number lists.collect sweeps.polls_from sweeps.in_turn sweeps.polls_in sweeps.rows_listed sweeps.bad_lists sweeps.bad_sum sweeps.big_count sweeps.sweep_input_refusal sweeps.listed_entries sweeps.sweep_room_refusal sweeps.sweep_refusal sweeps.sweep_effect sweeps.sweep_step filled addresses
 swept = record { store = refl; seen = refl }

@@ -1,5 +1,5 @@
+pub mod Calls
 pub mod Computed
 pub mod Filling
 pub mod Performing
-pub mod Rounds
 pub mod Turns

@@ -3,7 +3,8 @@ use Prim.Native.Nat.{ℕ, ◌+◌, ◌*◌, ◌≤◌, ◌%◌}
 use mathlib.Core.Path.{◌≡◌, refl}
 use mathlib.Core.Bool.{Bool, true, false}
 use mathlib.Core.List.{List, [], ◌∷◌}
-use mathlib.Core.Option.{none, or_else}
+use Rattle.std.specs.Prelude.{None}
+use Rattle.std.specs.Option.{option_or}
 use native.Mathlib.Numerals.{add-one}
 use native.Mathlib.Omega.{arith}
 use lib.Dec.{ltb}
@@ -19,35 +20,33 @@ use Rattle.store_rules.proofs.PollRows.{few-rows}
 use Rattle.store_bench.specs.Loads.{sender_at, lone, counted, told, polled_in_turn}
 
 -- with room for one row, a poll tells of at most one
-poll-few : (s : Store) (a : Bytes) (head : ℕ) (known : List ℕ) → told s (poll a head known none) 19 0 ≤ 1
-unfolding step unless refusal or_else input_refusal room_refusal row_width bad_content when effect walked said
+poll-few : (s : Store) (a : Bytes) (head : ℕ) (known : List ℕ) → told s (poll a head known None) 19 0 ≤ 1
+unfolding step unless refusal input_refusal room_refusal row_width bad_content when effect walked said
 poll-few s a head known = go (ltb 256 (length known)) (ltb 19 (19 * length (entries_of a s.entries))) refl
   where
     go : (x y : Bool) → ltb 19 (19 * length (entries_of a s.entries)) ≡ y →
-        counted (said long (unless (or_else (or_else (when x 3) none) (when y 5)) s (walked (walk (only_of a (poll_rule head known none)) s.entries s.guards) rows)).1) ≤ 1
+        counted (said long (unless (option_or (option_or (when x 3) None) (when y 5)) s (walked (walk (only_of a (poll_rule head known None)) s.entries s.guards) rows)).1) ≤ 1
     go true y e = omega arith
     go false true e = omega arith
-    go false false e = omega (arith, few-rows a head known none s.entries s.guards, ltb-false 19 (19 * length (entries_of a s.entries)) e)
+    go false false e = omega (arith, few-rows a head known None s.entries s.guards, ltb-false 19 (19 * length (entries_of a s.entries)) e)
 
 -- after i of the rounds
-pub record Turned (limit : ℕ) (s : Store) (seen i : ℕ) : Type 0 where
-  pub within : i ≤ limit
+pub record Turned (s : Store) (seen i : ℕ) : Type 0 where
   pub store : s ≡ (polled_in_turn i).0
   pub all : seen ≡ (polled_in_turn i).1
   pub few : seen ≤ i
 
-pub none-turned : (limit : ℕ) → Turned limit (lone 64) 0 0
+pub none-turned : Turned (lone 64) 0 0
 unfolding polled_in_turn
-none-turned limit = record { within = omega arith; store = refl; all = refl; few = omega arith }
+none-turned = record { store = refl; all = refl; few = omega arith }
 
-module _ (limit : ℕ) (s : Store) (seen i : ℕ) (t : Turned limit s seen i) (n : ℕ) (tells : n ≡ told s (poll (sender_at (i % 64)) 5 (6 ∷ []) none) 19 0) where
+module _ (s : Store) (seen i : ℕ) (t : Turned s seen i) (n : ℕ) (tells : n ≡ told s (poll (sender_at (i % 64)) 5 (6 ∷ []) None) 19 0) where
   pub tells-few : n ≤ 1
   tells-few = rw tells (poll-few s (sender_at (i % 64)) 5 (6 ∷ []))
 
-  pub one-turned : i + 1 ≤ limit → (s' : Store) → s' ≡ (step s (record { call = poll (sender_at (i % 64)) 5 (6 ∷ []) none; form = long; numbers = 19; bytes = 0 })).0 → Turned limit s' (seen + n) (i + 1)
+  pub one-turned : (s' : Store) → s' ≡ (step s (record { call = poll (sender_at (i % 64)) 5 (6 ∷ []) None; form = long; numbers = 19; bytes = 0 })).0 → Turned s' (seen + n) (i + 1)
   unfolding polled_in_turn
-  one-turned h s' e = record {
-    within = h;
+  one-turned s' e = record {
     store = rw (add-one i, e, t.store);
     all = rw (add-one i, tells, t.all, t.store);
     few = omega (arith, t.few, tells-few);

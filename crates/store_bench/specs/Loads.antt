@@ -1,6 +1,6 @@
 -- The stores that the loops run on, the calls that they make on them, and how many an answer tells of.
 use Rattle.std.specs.Prelude.{ℕ, zero, suc, ◌+◌, ◌*◌, ◌%◌, ◌≡◌, Bool, true, false, cond, [], ◌∷◌, ltb, set, replicate}
-use Rattle.std.proofs.Math.Option.{none, some}
+use Rattle.std.specs.Prelude.{None, Some}
 use Rattle.lists.specs.Bytes.{Bytes}
 use Rattle.store_rules.specs.Frames.{Frame, mined, Guard, reparked}
 use Rattle.store_rules.specs.Store.{Store, empty, Call, RowForm, long, push, poll, guard, enter_tentative, evict_sender, step}
@@ -38,11 +38,11 @@ whose false n = sender
 
 -- a poll at head 5 that knows only 6 of the gap: every frame waits
 abbrev pub waiting : Call
-waiting = poll sender 5 (6 ∷ []) none
+waiting = poll sender 5 (6 ∷ []) None
 
 -- a poll at the claim: every frame is rescued
 abbrev pub rescuing : Call
-rescuing = poll sender 8 [] none
+rescuing = poll sender 8 [] None
 
 -- hashes of the gap's nonces, one after another
 abbrev pub contents : Bytes
@@ -54,7 +54,7 @@ guard_at n = record { hash = hash_at n; kind = reparked 5; predecessors = 5 ∷ 
 
 -- a poll that knows the whole gap and brings its contents
 abbrev pub guarded : Call
-guarded = poll sender 5 (5 ∷ 6 ∷ 7 ∷ []) (some (record { nonces = 5 ∷ 6 ∷ 7 ∷ []; hashes = contents }))
+guarded = poll sender 5 (5 ∷ 6 ∷ 7 ∷ []) (Some (record { nonces = 5 ∷ 6 ∷ 7 ∷ []; hashes = contents }))
 
 -- the first frame is mined in block 100
 abbrev pub mining : Call
@@ -121,7 +121,7 @@ abbrev pub counted : Said → ℕ
 counted (says_total n) = n
 counted (says_rows form n) = n
 counted says_recorded = 0
-counted (says_entered b sender place) = cond b 1 0
+counted (says_entered b _ _) = cond b 1 0
 counted (says_frames n) = n
 counted (says_dead n) = n
 counted (says_refused n) = 0
@@ -140,10 +140,14 @@ unfoldable pub polled_in_turn : ℕ → Store × ℕ
 polled_in_turn zero = (lone 64, 0)
 polled_in_turn (suc n) =
     let s = (polled_in_turn n).0 in
-    let call = poll (sender_at (n % 64)) 5 (6 ∷ []) none in
+    let call = poll (sender_at (n % 64)) 5 (6 ∷ []) None in
     ((step s (record { call = call; form = long; numbers = 19; bytes = 0 })).0, (polled_in_turn n).1 + told s call 19 0)
 
 -- such a call leads to this store, and tells of so many
 pub record Goes (s : Store) (call : Call) (numbers bytes : ℕ) (t : Store) (n : ℕ) : Type 0 where
   pub store : (step s (record { call = call; form = long; numbers = numbers; bytes = bytes })).0 ≡ t
   pub seen : told s call numbers bytes ≡ n
+
+-- a round that finds the store, as the view has it, to be s tells of n, and leaves the store so
+abbrev pub Repeats : {S : Type 0} → (S → Store) → Store → ℕ → S → ℕ → S → Type 0
+Repeats view s n before seen after = view before ≡ s → (seen ≡ n) × (view after ≡ s)

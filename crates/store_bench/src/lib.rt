@@ -1,17 +1,21 @@
-// Loops over store calls, for drivers that time them. Each makes its store, runs so many rounds, at most 2^32, and answers how
+// Loops over store calls, for drivers that time them. Each makes its store, runs so many rounds, at most 2^32, and returns how
 // many rows or frames the answers told of. All but one run on the held part of a store.
 #![tactic(auto)]
 
 ghost use Rattle.std.specs.Prelude.{◌≡◌, ◌*◌, min};
-ghost use Rattle.store_bench.specs.Loads.{polled_in_turn, sized};
+ghost use Rattle.gap_quarantine.specs.Promises.{view_of};
+ghost use Rattle.store_rules.specs.Store.{empty, push, short, check_finalized};
+ghost use Rattle.store_rules.specs.View.{held_view};
+ghost use Rattle.guards.specs.Recording.{bodies_in};
+ghost use Rattle.store_bench.specs.Loads.{alone, pushed, guarded_by, lone, addresses, polled_in_turn, sized, frame, waiting, guarded, rescuing, mining, evicting, told, told_in, Repeats};
 
-use gap_quarantine::{Held, Quarantine};
-use once::{Once, held_back, repeated};
+use gap_quarantine::{Held, NonceConsumed, Quarantine};
+use rounds::told_in_all;
 use stores::{
-    addresses, capped, counted, frame, guarded_store, lone_store, sender_at, sized, store_of,
+    addresses, counted, frame, guarded_store, lone_store, mined, numbered, sized, store_of,
 };
 
-mod once; // once.rt: one call on a store that is kept
+mod rounds; // rounds.rt: the rounds of a run
 mod stores; // stores.rt: the stores, and how many an answer tells of
 
 // ---- rounds that give the store on
@@ -21,46 +25,34 @@ mod stores; // stores.rt: the stores, and how many an answer tells of
 pub extern "C" fn gap_quarantine_polls(rounds: u64) -> u64
     ensures { result ≡ 8 * min rounds 4294967296 }
 {
-    let limit = capped(rounds);
-    let known = [6u64; 1];
     let mut h = store_of(8);
-    let mut seen: u64 = 0;
-    let mut i: u64 = 0;
-    while i < limit {
-        let mut rows = [0u64; 152];
-        let r = gap_quarantine::poll(h, [1u8; 20], 5, &known, &mut rows);
-        h = r.held;
-        let answer = r.answer;
-        seen += counted(answer);
-        i += 1;
-    }
-    seen
+    let round = ||
+        ensures { Repeats alone (pushed 8) 8 h.entry result h.exit }
+    {
+        let r = gap_quarantine::poll(h, [1u8; 20], 5, &[6], &mut [0u64; 152]);
+        h = r.store;
+        counted(r.answer)
+    };
+    told_in_all(rounds, round)
 }
 
-// The same on the whole store as one value.
+// Polls of a sender with 8 frames, which all wait, of the whole store as one value.
 #[unsafe(no_mangle)]
 pub extern "C" fn store_bench_whole_waiting(rounds: u64) -> u64
     ensures { result ≡ 8 * min rounds 4294967296 }
 {
-    let limit = capped(rounds);
-    let known = [6u64; 1];
-    let held = store_of(8);
     let mut q = Quarantine {
-        held: held,
-        guard_numbers: [0u64; 1280],
-        guard_contents: [0u8; 32768],
+        held: store_of(8),
+        ..Quarantine::new()
     };
-    let mut seen: u64 = 0;
-    let mut i: u64 = 0;
-    while i < limit {
-        let mut rows = [0u64; 152];
-        let r = q.poll([1u8; 20], 5, &known, &mut rows);
+    let round = ||
+        ensures { Repeats view_of (pushed 8) 8 q.entry result q.exit }
+    {
+        let r = q.poll([1u8; 20], 5, &[6], &mut [0u64; 152]);
         q = r.store;
-        let answer = r.answer;
-        seen += counted(answer);
-        i += 1;
-    }
-    seen
+        counted(r.answer)
+    };
+    told_in_all(rounds, round)
 }
 
 // Polls with content of a sender with 8 frames, each held back by its guard.
@@ -68,25 +60,20 @@ pub extern "C" fn store_bench_whole_waiting(rounds: u64) -> u64
 pub extern "C" fn gap_quarantine_guarded_polls(rounds: u64) -> u64
     ensures { result ≡ 8 * min rounds 4294967296 }
 {
-    let limit = capped(rounds);
-    let gap = [5u64, 6, 7];
-    let hashes = [7u8; 96];
-    let mut numbers = [0u64; 1280];
-    let mut contents = [0u8; 32768];
-    let mut h = guarded_store(8, &mut numbers, &mut contents);
-    let mut seen: u64 = 0;
-    let mut i: u64 = 0;
-    while i < limit {
+    let mut bodies = Quarantine::new().bodies;
+    let mut h = guarded_store(8, &mut bodies);
+    let round = ||
+        ensures { Repeats (held_view (bodies_in bodies)) (guarded_by 8) 8 h.entry result h.exit }
+    {
+        let gap = [5u64, 6, 7];
         let mut rows = [0u64; 152];
         let r = gap_quarantine::poll_with_content(
-            h, &numbers, &contents, [1u8; 20], 5, &gap, &gap, &hashes, &mut rows,
+            h, &bodies, [1u8; 20], 5, &gap, &gap, &[7u8; 96], &mut rows,
         );
-        h = r.held;
-        let answer = r.answer;
-        seen += counted(answer);
-        i += 1;
-    }
-    seen
+        h = r.store;
+        counted(r.answer)
+    };
+    told_in_all(rounds, round)
 }
 
 // Sweeps of 64 senders with a frame each, which all wait.
@@ -94,23 +81,19 @@ pub extern "C" fn gap_quarantine_guarded_polls(rounds: u64) -> u64
 pub extern "C" fn gap_quarantine_sweeps(rounds: u64) -> u64
     ensures { result ≡ 64 * min rounds 4294967296 }
 {
-    let limit = capped(rounds);
     let senders = addresses();
-    let heads = [5u64; 64];
-    let counts = [1u64; 64];
-    let nonces = [6u64; 64];
     let mut h = lone_store();
-    let mut seen: u64 = 0;
-    let mut i: u64 = 0;
-    while i < limit {
-        let mut rows = [0u64; 1216];
-        let r = gap_quarantine::sweep(h, &senders, &heads, &counts, &nonces, &mut rows);
-        h = r.held;
-        let answer = r.answer;
-        seen += counted(answer);
-        i += 1;
-    }
-    seen
+    let round = ||
+        ensures { senders ≡ addresses 64 → Repeats alone (lone 64) 64 h.entry result h.exit }
+    {
+        let heads = [5u64; 64];
+        let counts = [1u64; 64];
+        let nonces = [6u64; 64];
+        let r = gap_quarantine::sweep(h, &senders, &heads, &counts, &nonces, &mut [0u64; 1216]);
+        h = r.store;
+        counted(r.answer)
+    };
+    told_in_all(rounds, round)
 }
 
 // Polls of the same senders, one after another: a poll a round.
@@ -118,19 +101,14 @@ pub extern "C" fn gap_quarantine_sweeps(rounds: u64) -> u64
 pub extern "C" fn gap_quarantine_polls_in_turn(rounds: u64) -> u64
     ensures { result ≡ (polled_in_turn (min rounds 4294967296)).1 }
 {
-    let limit = capped(rounds);
-    let known = [6u64; 1];
     let mut h = lone_store();
     let mut seen: u64 = 0;
-    let mut i: u64 = 0;
-    while i < limit {
-        let mut rows = [0u64; 19];
-        let sender = sender_at((i % 64) as u8);
-        let r = gap_quarantine::poll(h, sender, 5, &known, &mut rows);
-        h = r.held;
-        let answer = r.answer;
-        seen += counted(answer);
-        i += 1;
+    // Its own loop: what a round tells of depends on which it is.
+    for i in 0..rounds.min(1 << 32) {
+        let sender = numbered((i % 64) as u8);
+        let r = gap_quarantine::poll(h, sender, 5, &[6], &mut [0u64; 19]);
+        h = r.store;
+        seen += counted(r.answer);
     }
     seen
 }
@@ -140,20 +118,14 @@ pub extern "C" fn gap_quarantine_polls_in_turn(rounds: u64) -> u64
 pub extern "C" fn gap_quarantine_push_and_rescue(rounds: u64) -> u64
     ensures { result ≡ min rounds 4294967296 }
 {
-    let limit = capped(rounds);
-    let known = [0u64; 0];
     let mut h = Held::new();
     let mut seen: u64 = 0;
-    let mut i: u64 = 0;
-    while i < limit {
-        let mut rows = [0u64; 19];
+    // Its own loop: tried as a closure's round, which clears a store each time, and a fifth slower.
+    for _ in 0..rounds.min(1 << 32) {
         let pushed = gap_quarantine::push(h, frame(0));
-        let held = pushed.held;
-        let r = gap_quarantine::poll(held, [1u8; 20], 8, &known, &mut rows);
-        h = r.held;
-        let answer = r.answer;
-        seen += counted(answer);
-        i += 1;
+        let r = gap_quarantine::poll(pushed.store, [1u8; 20], 8, &[], &mut [0u64; 19]);
+        h = r.store;
+        seen += counted(r.answer);
     }
     seen
 }
@@ -163,33 +135,34 @@ pub extern "C" fn gap_quarantine_push_and_rescue(rounds: u64) -> u64
 pub extern "C" fn gap_quarantine_finality(rounds: u64) -> u64
     ensures { result ≡ min rounds 4294967296 }
 {
-    let limit = capped(rounds);
     let mut h = Held::new();
     let mut seen: u64 = 0;
-    let mut i: u64 = 0;
-    while i < limit {
-        let mut numbers = [0u64; 3];
-        let mut bytes = [0u8; 64];
+    // Its own loop: tried as a closure's round, which clears a store each time, and a fifth slower.
+    for _ in 0..rounds.min(1 << 32) {
         let pushed = gap_quarantine::push(h, frame(0));
-        let held = pushed.held;
-        let entered = stores::mined(held);
-        let r = gap_quarantine::check_finalized(entered, 100, &mut numbers, &mut bytes);
-        h = r.held;
-        let answer = r.answer;
-        seen += counted(answer);
-        i += 1;
+        let entered = mined(pushed.store);
+        let r = gap_quarantine::check_finalized(entered, 100, &mut [0u64; 3], &mut [0u8; 64]);
+        h = r.store;
+        seen += counted(r.answer);
     }
     seen
 }
 
-// ---- one call on a store that is kept
+// ---- one call on a store that is kept, so that each round finds the same store
 
-// Pushes to a store of 8 frames: each answers 9.
+// Pushes to a store of 8 frames: each tells of 9.
 #[unsafe(no_mangle)]
 pub extern "C" fn store_bench_push(rounds: u64) -> u64
     ensures { result ≡ 9 * min rounds 4294967296 }
 {
-    repeated(Once::Push, store_of(8), rounds)
+    let h = store_of(8);
+    let call = ||
+        ensures { result ≡ told (alone h) (push (frame 8)) 0 0 }
+    {
+        let r = gap_quarantine::push(h, frame(8));
+        counted(r.answer)
+    };
+    told_in_all(rounds, call)
 }
 
 // Polls of a sender with 1, 8 or 64 frames, which all wait.
@@ -197,15 +170,29 @@ pub extern "C" fn store_bench_push(rounds: u64) -> u64
 pub extern "C" fn store_bench_waiting(frames: u64, rounds: u64) -> u64
     ensures { result ≡ sized frames * min rounds 4294967296 }
 {
-    repeated(Once::Wait, store_of(sized(frames)), rounds)
+    let h = store_of(sized(frames));
+    let call = ||
+        ensures { result ≡ told (alone h) waiting 1216 0 }
+    {
+        let r = gap_quarantine::poll(h, [1u8; 20], 5, &[6], &mut [0u64; 1216]);
+        counted(r.answer)
+    };
+    told_in_all(rounds, call)
 }
 
-// The same with short rows.
+// Polls with short rows of a sender with 1, 8 or 64 frames, which all wait.
 #[unsafe(no_mangle)]
 pub extern "C" fn store_bench_waiting_short(frames: u64, rounds: u64) -> u64
     ensures { result ≡ sized frames * min rounds 4294967296 }
 {
-    repeated(Once::WaitShort, store_of(sized(frames)), rounds)
+    let h = store_of(sized(frames));
+    let call = ||
+        ensures { result ≡ told_in short (alone h) waiting 320 0 }
+    {
+        let r = gap_quarantine::poll_short(h, [1u8; 20], 5, &[6], &mut [0u64; 320]);
+        counted(r.answer)
+    };
+    told_in_all(rounds, call)
 }
 
 // Polls with content of a sender with 1, 8 or 64 frames, each held back by its guard.
@@ -213,10 +200,19 @@ pub extern "C" fn store_bench_waiting_short(frames: u64, rounds: u64) -> u64
 pub extern "C" fn store_bench_guarded(frames: u64, rounds: u64) -> u64
     ensures { result ≡ sized frames * min rounds 4294967296 }
 {
-    let mut numbers = [0u64; 1280];
-    let mut contents = [0u8; 32768];
-    let h = guarded_store(sized(frames), &mut numbers, &mut contents);
-    held_back(h, &numbers, &contents, rounds)
+    let mut bodies = Quarantine::new().bodies;
+    let h = guarded_store(sized(frames), &mut bodies);
+    let call = ||
+        ensures { result ≡ told (held_view (bodies_in bodies) h) guarded 1216 0 }
+    {
+        let gap = [5u64, 6, 7];
+        let mut rows = [0u64; 1216];
+        let r = gap_quarantine::poll_with_content(
+            h, &bodies, [1u8; 20], 5, &gap, &gap, &[7u8; 96], &mut rows,
+        );
+        counted(r.answer)
+    };
+    told_in_all(rounds, call)
 }
 
 // Polls of a sender with 1, 8 or 64 frames, which are all rescued.
@@ -224,7 +220,14 @@ pub extern "C" fn store_bench_guarded(frames: u64, rounds: u64) -> u64
 pub extern "C" fn store_bench_rescued(frames: u64, rounds: u64) -> u64
     ensures { result ≡ sized frames * min rounds 4294967296 }
 {
-    repeated(Once::Rescue, store_of(sized(frames)), rounds)
+    let h = store_of(sized(frames));
+    let call = ||
+        ensures { result ≡ told (alone h) rescuing 1216 0 }
+    {
+        let r = gap_quarantine::poll(h, [1u8; 20], 8, &[], &mut [0u64; 1216]);
+        counted(r.answer)
+    };
+    told_in_all(rounds, call)
 }
 
 // Enterings of the first of 1, 8 or 64 frames.
@@ -232,7 +235,15 @@ pub extern "C" fn store_bench_rescued(frames: u64, rounds: u64) -> u64
 pub extern "C" fn store_bench_enter(frames: u64, rounds: u64) -> u64
     ensures { result ≡ min rounds 4294967296 }
 {
-    repeated(Once::Enter, store_of(sized(frames)), rounds)
+    let h = store_of(sized(frames));
+    let call = ||
+        ensures { result ≡ told (alone h) mining 0 0 }
+    {
+        let mined = NonceConsumed::MinedAt(100);
+        let r = gap_quarantine::enter_tentative(h, numbered(0), mined, [3u8; 32], [0u8; 32]);
+        r.whose.is_some() as u64
+    };
+    told_in_all(rounds, call)
 }
 
 // Evictions of a sender's 8 frames.
@@ -240,7 +251,14 @@ pub extern "C" fn store_bench_enter(frames: u64, rounds: u64) -> u64
 pub extern "C" fn store_bench_evict(rounds: u64) -> u64
     ensures { result ≡ 8 * min rounds 4294967296 }
 {
-    repeated(Once::Evict, store_of(8), rounds)
+    let h = store_of(8);
+    let call = ||
+        ensures { result ≡ told (alone h) evicting 64 0 }
+    {
+        let r = gap_quarantine::evict_sender(h, [1u8; 20], &mut [0u64; 64]);
+        counted(r.answer)
+    };
+    told_in_all(rounds, call)
 }
 
 // Finality that ends one of 8 frames.
@@ -248,5 +266,12 @@ pub extern "C" fn store_bench_evict(rounds: u64) -> u64
 pub extern "C" fn store_bench_finality(rounds: u64) -> u64
     ensures { result ≡ min rounds 4294967296 }
 {
-    repeated(Once::Finality, stores::mined(store_of(8)), rounds)
+    let h = mined(store_of(8));
+    let call = ||
+        ensures { result ≡ told (alone h) (check_finalized 100) 3 64 }
+    {
+        let r = gap_quarantine::check_finalized(h, 100, &mut [0u64; 3], &mut [0u8; 64]);
+        counted(r.answer)
+    };
+    told_in_all(rounds, call)
 }

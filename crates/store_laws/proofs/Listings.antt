@@ -4,7 +4,7 @@ use native.Mathlib.Omega.{arith}
 use mathlib.Core.Path.{◌≡◌, refl, sym, ap, ◌∙◌}
 use mathlib.Core.Bool.{Bool, true, false, ◌&&◌, ◌||◌, not, cond, true≢false, or_assoc, or-false, and_comm}
 use mathlib.Core.List.{List, [], ◌∷◌, ◌++◌}
-use mathlib.Core.Option.{Option, some}
+use Rattle.std.specs.Prelude.{Option, Some}
 use lib.Dec.{eqb, leb, ltb}
 use borrow.Author.Tests.{eqb-true, eq-eqb, leb-true, leb-false, ltb-true, ltb-false, le-leb, lt-leb, lt-ltb, le-ltb}
 use Rattle.lists.specs.Bytes.{Bytes, eq_bytes, le_bytes, Before}
@@ -44,16 +44,16 @@ unfolding blocks_from
 blocks-ascending bs [] h = h
 blocks-ascending bs (e ∷ es) h = blocks-ascending (with_block e.standing.state bs) es (with_block-ascending e.standing.state bs h)
 
-hash-put : (n : ℕ) (b : Block) (bs : List Block) → hash_of n (put_block b bs) ≡ cond (eqb b.block n) (some b.block_hash) (hash_of n bs)
+hash-put : (n : ℕ) (b : Block) (bs : List Block) → hash_of n (put_block b bs) ≡ cond (eqb b.block n) (Some b.block_hash) (hash_of n bs)
 unfolding hash_of put_block
 hash-put n b [] = refl
 hash-put n b (x ∷ xs) = go (ltb b.block x.block) (eqb b.block x.block) refl (hash-put n b xs)
   where
     found : Block → Option Bytes → Option Bytes
-    found y later = cond (eqb y.block n) (some y.block_hash) later
+    found y later = cond (eqb y.block n) (Some y.block_hash) later
 
     both : (c d : Bool) → eqb b.block n ≡ c → eqb x.block n ≡ d → eqb b.block x.block ≡ false → (later : Option Bytes) →
-        cond d (some x.block_hash) (cond c (some b.block_hash) later) ≡ cond c (some b.block_hash) (cond d (some x.block_hash) later)
+        cond d (Some x.block_hash) (cond c (Some b.block_hash) later) ≡ cond c (Some b.block_hash) (cond d (Some x.block_hash) later)
     both true true p q r later = clash (eq-eqb b.block x.block (eqb-true b.block n p ∙ sym (eqb-true x.block n q))) r
     both true false p q r later = refl
     both false true p q r later = refl
@@ -64,7 +64,7 @@ hash-put n b (x ∷ xs) = go (ltb b.block x.block) (eqb b.block x.block) refl (h
     go true e p ih = refl
     go false true p ih = rw (← eqb-true b.block x.block p) (again (eqb b.block n))
       where
-        again : (c : Bool) → cond c (some b.block_hash) (hash_of n xs) ≡ cond c (some b.block_hash) (cond c (some x.block_hash) (hash_of n xs))
+        again : (c : Bool) → cond c (Some b.block_hash) (hash_of n xs) ≡ cond c (Some b.block_hash) (cond c (Some x.block_hash) (hash_of n xs))
         again true = refl
         again false = refl
     go false false p ih = rw ih (both (eqb b.block n) (eqb x.block n) refl refl p (hash_of n xs))

@@ -4,7 +4,8 @@ use native.Mathlib.Omega.{arith}
 use mathlib.Core.Path.{◌≡◌, refl, subst}
 use mathlib.Core.Bool.{Bool, true, false, not, cond}
 use mathlib.Core.List.{List, [], ◌∷◌}
-use mathlib.Core.Option.{Option, none, some, map}
+use Rattle.std.specs.Prelude.{Option, None, Some}
+use Rattle.std.specs.Option.{option_map}
 use lib.ListN.{length, get_or}
 use Rattle.lists.specs.Bytes.{Bytes, eq_bytes}
 use Rattle.lists.specs.Lists.{keep, is_empty}
@@ -21,15 +22,15 @@ module _ (p : Entry → Bool) where
   found-exactly (e ∷ es) = rw (lookup-cons p e es) (go (p e) (lookup p es) (found-exactly es))
     where
       go : (b : Bool) (o : Option Found) → is_found o ≡ not (is_empty (keep p es)) →
-          is_found (cond b (some (found_behind [] e)) (map (behind e) o)) ≡ not (is_empty (cond b (e ∷ keep p es) (keep p es)))
+          is_found (cond b (Some (found_behind [] e)) (option_map (behind e) o)) ≡ not (is_empty (cond b (e ∷ keep p es) (keep p es)))
       go true o ih = refl
-      go false none ih = ih
-      go false (some f) ih = ih
+      go false None ih = ih
+      go false (Some f) ih = ih
 
   -- what is found, if something is
   abbrev LeadsIf : List Entry → Option Found → Type 0
-  LeadsIf es none = Unit {0}
-  LeadsIf es (some f) = Leads p es f
+  LeadsIf es None = Unit {0}
+  LeadsIf es (Some f) = Leads p es f
 
   leads-on : (e : Entry) (es : List Entry) (f : Found) → p e ≡ false → Leads p es f → Leads p (e ∷ es) (behind e f)
   unfolding behind place_behind keep entries_of
@@ -64,18 +65,18 @@ module _ (p : Entry → Bool) where
   leads-if [] = rw (lookup-nil p) tt
   leads-if (e ∷ es) = rw (lookup-cons p e es) (go (p e) refl (lookup p es) (leads-if es))
     where
-      go : (b : Bool) → p e ≡ b → (o : Option Found) → LeadsIf es o → LeadsIf (e ∷ es) (cond b (some (found_behind [] e)) (map (behind e) o))
+      go : (b : Bool) → p e ≡ b → (o : Option Found) → LeadsIf es o → LeadsIf (e ∷ es) (cond b (Some (found_behind [] e)) (option_map (behind e) o))
       go true t o ih = leads-here e es t
-      go false t none ih = tt
-      go false t (some f) ih = leads-on e es f t ih
+      go false t None ih = tt
+      go false t (Some f) ih = leads-on e es f t ih
 
 pub every-lookup : EveryLookup
 every-lookup p es = record { exactly = found-exactly p es; leads = λ f q. subst (LeadsIf p es) q (leads-if p es) }
 
 module _ (h : Bytes) (c : Consumed) where
   abbrev EnteredIf : List Entry → Option Found → Type 0
-  EnteredIf es none = Unit {0}
-  EnteredIf es (some f) = (d : Entry) → get_or (entries_of f.whose.sender es) f.whose.place d ≡ enter_with c f.entry
+  EnteredIf es None = Unit {0}
+  EnteredIf es (Some f) = (d : Entry) → get_or (entries_of f.whose.sender es) f.whose.place d ≡ enter_with c f.entry
 
   entered-if : (es : List Entry) → EnteredIf (enter_first h c es) (lookup (enters h) es)
   unfolding found_behind behind place_behind keep entries_of enter_with
@@ -83,10 +84,10 @@ module _ (h : Bytes) (c : Consumed) where
   entered-if (e ∷ es) = rw (lookup-cons (enters h) e es, enter-cons h c e es) (go (enters h e) (lookup (enters h) es) (entered-if es))
     where
       go : (b : Bool) (o : Option Found) → EnteredIf (enter_first h c es) o →
-          EnteredIf (cond b (enter_with c e ∷ es) (e ∷ enter_first h c es)) (cond b (some (found_behind [] e)) (map (behind e) o))
+          EnteredIf (cond b (enter_with c e ∷ es) (e ∷ enter_first h c es)) (cond b (Some (found_behind [] e)) (option_map (behind e) o))
       go true o ih = λ d. rw (eq_bytes-refl e.frame.from)
-      go false none ih = tt
-      go false (some f) ih = there (eq_bytes e.frame.from f.whose.sender)
+      go false None ih = tt
+      go false (Some f) ih = there (eq_bytes e.frame.from f.whose.sender)
         where
           own : List Entry
           own = entries_of f.whose.sender (enter_first h c es)

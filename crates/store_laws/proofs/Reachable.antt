@@ -4,7 +4,9 @@ use native.Mathlib.Omega.{arith}
 use mathlib.Core.Path.{◌≡◌, refl, sym, ap, subst}
 use mathlib.Core.Bool.{Bool, true, false, ◌&&◌, not, cond, true≢false}
 use mathlib.Core.List.{List, [], ◌∷◌}
-use mathlib.Core.Option.{Option, none, some, or_else, none-ne-some}
+use Rattle.std.specs.Prelude.{Option, None, Some}
+use Rattle.std.specs.Option.{option_or}
+use Rattle.lists.proofs.Options.{none-ne-some}
 use lib.Dec.{leb}
 use lib.ListN.{length}
 use borrow.Author.Tests.{leb-false}
@@ -41,24 +43,24 @@ insert-length e (f ∷ fs) = go (le_bytes f.frame.from e.frame.from) (insert-len
     go false h = refl
 
 -- a push that is not refused: the gap is narrow, and there is room
-accepted : (s : Store) (f : Frame) (form : RowForm) (numbers bytes : ℕ) → or_else (input_refusal (push f)) (room_refusal s (push f) form numbers bytes) ≡ none →
+accepted : (s : Store) (f : Frame) (form : RowForm) (numbers bytes : ℕ) → option_or (input_refusal (push f)) (room_refusal s (push f) form numbers bytes) ≡ None →
     (wide_gap f ≡ false) × (length s.entries < 64)
-unfolding or_else input_refusal room_refusal when
+unfolding input_refusal room_refusal when
 accepted s f form numbers bytes = go (wide_gap f) (leb 64 (length s.entries)) refl
   where
-    go : (w l : Bool) → leb 64 (length s.entries) ≡ l → or_else (when w 1) (when l 2) ≡ none → (w ≡ false) × (length s.entries < 64)
+    go : (w l : Bool) → leb 64 (length s.entries) ≡ l → option_or (when w 1) (when l 2) ≡ None → (w ≡ false) × (length s.entries < 64)
     go true l p e = absurd (none-ne-some 1 (sym e))
     go false true p e = absurd (none-ne-some 2 (sym e))
     go false false p e = (refl, leb-false 64 (length s.entries) p)
 
-effect-entries : (s : Store) (q : Request) → refusal s q ≡ none → Entries s.entries → Entries (effect s q.call).0.entries
+effect-entries : (s : Store) (q : Request) → refusal s q ≡ None → Entries s.entries → Entries (effect s q.call).0.entries
 unfolding refusal fresh view seen
 effect-entries s q e h = subst Entries (ap (λ (r : Ideal × Answer). r.0.entries) (effect-view s q.call)) (go (change (view s) q.call))
   where
     go : Change (view s) q.call → Entries (effectᵢ (view s) q.call).0.entries
     go (thinned t) = let l = thinner-length t in record { entries = omega arith; narrow = thinner-each (λ f. wide_gap f ≡ false) t h.narrow }
     go (inserted f c i) =
-        let a = accepted s f q.form q.numbers q.bytes (subst (λ (x : Call). or_else (input_refusal x) (room_refusal s x q.form q.numbers q.bytes) ≡ none) c e) in
+        let a = accepted s f q.form q.numbers q.bytes (subst (λ (x : Call). option_or (input_refusal x) (room_refusal s x q.form q.numbers q.bytes) ≡ None) c e) in
         subst Entries (sym i) (record { entries = rw (insert-length (fresh f) s.entries) a.1; narrow = insert-each _ (fresh f) s.entries a.0 h.narrow })
 
 -- ---- guards
@@ -133,17 +135,17 @@ module _ (g : Guard) where
       go true p q = let l = put-replaces gs q in omega arith
       go false p q = let l = put-length gs in let m = leb-false 64 (length gs) p in omega arith
 
-has_room : (s : Store) (g : Guard) (form : RowForm) (numbers bytes : ℕ) → or_else (input_refusal (guard g)) (room_refusal s (guard g) form numbers bytes) ≡ none →
+has_room : (s : Store) (g : Guard) (form : RowForm) (numbers bytes : ℕ) → option_or (input_refusal (guard g)) (room_refusal s (guard g) form numbers bytes) ≡ None →
     no_room_for g.hash s.guards ≡ false
-unfolding or_else room_refusal when
+unfolding room_refusal when
 has_room s g form numbers bytes = go (input_refusal (guard g)) (no_room_for g.hash s.guards)
   where
-    go : (o : Option ℕ) (b : Bool) → or_else o (when b 8) ≡ none → b ≡ false
-    go (some n) b e = absurd (none-ne-some n (sym e))
-    go none true e = absurd (none-ne-some 8 (sym e))
-    go none false e = refl
+    go : (o : Option ℕ) (b : Bool) → option_or o (when b 8) ≡ None → b ≡ false
+    go (Some n) b e = absurd (none-ne-some n (sym e))
+    go None true e = absurd (none-ne-some 8 (sym e))
+    go None false e = refl
 
-effect-guards : (s : Store) (c : Call) (form : RowForm) (numbers bytes : ℕ) → or_else (input_refusal c) (room_refusal s c form numbers bytes) ≡ none →
+effect-guards : (s : Store) (c : Call) (form : RowForm) (numbers bytes : ℕ) → option_or (input_refusal c) (room_refusal s c form numbers bytes) ≡ None →
     Guards s.guards → Guards (effect s c).0.guards
 unfolding effect walked
 effect-guards s (push f) form numbers bytes e h = h
@@ -165,8 +167,8 @@ unfolding step unless refusal
 step-limits s q h = go (refusal s q) refl
   where
     go : (o : Option ℕ) → refusal s q ≡ o → Limits (unless o s (effect s q.call)).0
-    go (some n) e = h
-    go none e = record {
+    go (Some n) e = h
+    go None e = record {
       of_entries = effect-entries s q e h.of_entries;
       of_guards = effect-guards s q.call q.form q.numbers q.bytes e h.of_guards;
     }

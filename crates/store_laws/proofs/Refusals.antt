@@ -3,7 +3,9 @@ use Prim.Native.Nat.{ℕ, ◌*◌, ◌≤◌}
 use mathlib.Core.Path.{◌≡◌, refl, sym, subst}
 use mathlib.Core.Bool.{Bool, true, false, ◌||◌, not}
 use mathlib.Core.List.{List, [], ◌∷◌}
-use mathlib.Core.Option.{Option, none, some, or_else, some-injective, none-ne-some, some-ne-none}
+use Rattle.std.specs.Prelude.{Option, None, Some}
+use Rattle.std.specs.Option.{option_or}
+use Rattle.lists.proofs.Options.{some-injective, none-ne-some, some-ne-none}
 use lib.Dec.{eqb, ltb}
 use lib.ListN.{length}
 use borrow.Author.Tests.{ltb-false, le-ltb, eqb-true, eq-eqb}
@@ -17,8 +19,8 @@ use Rattle.store_laws.specs.Refusals.{place_numbers, RefusedByPlace, RefusedByIn
 
 -- a refusal, if there is one, is among these numbers
 abbrev Among : List ℕ → Option ℕ → Type 0
-Among ns none = Unit {0}
-Among ns (some n) = is_in n ns ≡ true
+Among ns None = Unit {0}
+Among ns (Some n) = is_in n ns ≡ true
 
 module _ (ns : List ℕ) where
   among-when : (b : Bool) (n : ℕ) → is_in n ns ≡ true → Among ns (when b n)
@@ -26,10 +28,9 @@ module _ (ns : List ℕ) where
   among-when true n h = h
   among-when false n h = tt
 
-  among-or_else : (o p : Option ℕ) → Among ns o → Among ns p → Among ns (or_else o p)
-  unfolding or_else
-  among-or_else (some n) p h k = h
-  among-or_else none p h k = k
+  among-or_else : (o p : Option ℕ) → Among ns o → Among ns p → Among ns (option_or o p)
+  among-or_else (Some n) p h k = h
+  among-or_else None p h k = k
 
 input-among : (c : Call) → Among (place_numbers c) (input_refusal c)
 unfolding input_refusal place_numbers is_in
@@ -65,14 +66,14 @@ refused-by-place s q n e =
     subst (Among (place_numbers q.call)) e (among-or_else (place_numbers q.call) _ _ (input-among q.call) (room-among s q.call q.form q.numbers q.bytes).0)
 
 pub refused-by-inputs : RefusedByInputs
-unfolding refusal or_else about_room
+unfolding refusal about_room
 refused-by-inputs s t q n = go (input_refusal q.call) (room_refusal s q.call q.form q.numbers q.bytes) (room-among s q.call q.form q.numbers q.bytes).1
   where
-    go : (i r : Option ℕ) → Among about_room r → or_else i r ≡ some n → is_in n about_room ≡ false → or_else i (room_refusal t q.call q.form q.numbers q.bytes) ≡ some n
-    go (some m) r a e f = e
-    go none r a e f = clash (subst (Among about_room) e a) f
+    go : (i r : Option ℕ) → Among about_room r → option_or i r ≡ Some n → is_in n about_room ≡ false → option_or i (room_refusal t q.call q.form q.numbers q.bytes) ≡ Some n
+    go (Some m) r a e f = e
+    go None r a e f = clash (subst (Among about_room) e a) f
 
-when-is : (b : Bool) (m n : ℕ) → when b m ≡ some n → n ≡ m
+when-is : (b : Bool) (m n : ℕ) → when b m ≡ Some n → n ≡ m
 unfolding when
 when-is true m n e = sym (some-injective m n e)
 when-is false m n e = absurd (none-ne-some n e)
@@ -98,16 +99,16 @@ sweep-among s w =
     among-or_else ns _ _ (among-or_else ns _ _ (among-when ns _ 17 refl) (among-or_else ns _ _ (among-when ns _ 18 refl) (among-when ns _ 3 refl))) (among-when ns _ 5 refl)
 
 pub every-sweep-refusal : EverySweepRefusal
-unfolding sweep_step sweep_refusal sweep_room_refusal unless or_else
+unfolding sweep_step sweep_refusal sweep_room_refusal unless
 every-sweep-refusal s w n e = record {
   number = subst (Among sweep_numbers) e (sweep-among s w);
   inputs = λ other t. go (sweep_input_refusal w) e other t;
   unchanged = rw e;
 }
   where
-    go : (i : Option ℕ) → or_else i (sweep_room_refusal s w) ≡ some n → (n ≡ 5 → ⊥) → (t : Store) → or_else i (sweep_room_refusal t w) ≡ some n
-    go (some m) e other t = e
-    go none e other t = absurd (other (when-is _ 5 n e))
+    go : (i : Option ℕ) → option_or i (sweep_room_refusal s w) ≡ Some n → (n ≡ 5 → ⊥) → (t : Store) → option_or i (sweep_room_refusal t w) ≡ Some n
+    go (Some m) e other t = e
+    go None e other t = absurd (other (when-is _ 5 n e))
 
 none-big : (cs : List ℕ) → Each (λ n. n ≤ 256) cs → big_count cs ≡ false
 unfolding big_count keep is_empty
@@ -115,7 +116,7 @@ none-big [] h = refl
 none-big (c ∷ cs) h = rw (le-ltb 256 c h.0) (none-big cs h.1)
 
 pub refused-unsound : (w : Sweep) → RefusedUnsound w
-unfolding sweep_input_refusal bad_lists bad_sum or_else when
+unfolding sweep_input_refusal bad_lists bad_sum when
 refused-unsound w = record {
   sound = go (ltb 64 heads) refl (eqb (length w.senders) (20 * heads)) refl (eqb heads (length w.counts)) refl
       (eqb (sum w.counts) (length w.nonces)) refl (big_count w.counts) refl;
@@ -128,7 +129,7 @@ refused-unsound w = record {
 
     go : (a : Bool) → ltb 64 heads ≡ a → (b : Bool) → eqb (length w.senders) (20 * heads) ≡ b → (c : Bool) → eqb heads (length w.counts) ≡ c →
         (d : Bool) → eqb (sum w.counts) (length w.nonces) ≡ d → (e : Bool) → big_count w.counts ≡ e →
-        or_else (when (a || (not b || not c)) 17) (or_else (when (not d) 18) (when e 3)) ≡ none → SoundInputs w
+        option_or (when (a || (not b || not c)) 17) (option_or (when (not d) 18) (when e 3)) ≡ None → SoundInputs w
     go true o b p c q d r e t h = absurd (some-ne-none 17 h)
     go false o false p c q d r e t h = absurd (some-ne-none 17 h)
     go false o true p false q d r e t h = absurd (some-ne-none 17 h)

@@ -5,7 +5,9 @@ use native.Mathlib.Omega.{arith}
 use mathlib.Core.Path.{◌≡◌, refl, sym, ap, ◌∙◌}
 use mathlib.Core.Bool.{Bool, true, false}
 use mathlib.Core.List.{List, [], ◌∷◌, map}
-use mathlib.Core.Option.{Option, none, some, or_else, none-ne-some}
+use Rattle.std.specs.Prelude.{Option, None, Some}
+use Rattle.std.specs.Option.{option_or}
+use Rattle.lists.proofs.Options.{none-ne-some}
 use lib.Dec.{ltb}
 use lib.ListN.{length, replicate, drop}
 use lib.Seq.{take_at, drop_at}
@@ -87,7 +89,7 @@ decode-rows form (r ∷ rs) n =
     (take_at (row_numbers form r) (collect (row_numbers form) rs) (row_width form) w, drop_at (row_numbers form r) (collect (row_numbers form) rs) (row_width form) w, decode-row form r n.0, decode-rows form rs n.1)
 
 module _ (s : Store) (sender : Bytes) (head : ℕ) (known : List ℕ) (content : Option Content) where
-  made : (form : RowForm) (n : ℕ) → refusal s (polls form sender head known content n) ≡ none →
+  made : (form : RowForm) (n : ℕ) → refusal s (polls form sender head known content n) ≡ None →
       step s (polls form sender head known content n) ≡ effect s (poll sender head known content)
   unfolding step unless
   made form n e = rw e
@@ -107,21 +109,21 @@ short-as-long s sender head known content n m p q =
 
 -- ---- room
 
-less-room : (numbers entries : ℕ) → when (ltb numbers (19 * entries)) 5 ≡ none → when (ltb numbers (5 * entries)) 5 ≡ none
+less-room : (numbers entries : ℕ) → when (ltb numbers (19 * entries)) 5 ≡ None → when (ltb numbers (5 * entries)) 5 ≡ None
 unfolding when
 less-room numbers entries h = go (ltb numbers (19 * entries)) refl h
   where
-    go : (b : Bool) → ltb numbers (19 * entries) ≡ b → when b 5 ≡ none → when (ltb numbers (5 * entries)) 5 ≡ none
+    go : (b : Bool) → ltb numbers (19 * entries) ≡ b → when b 5 ≡ None → when (ltb numbers (5 * entries)) 5 ≡ None
     go true e h = absurd (none-ne-some 5 (sym h))
     go false e h = rw (le-ltb numbers (5 * entries) (omega (arith, ltb-false numbers (19 * entries) e)))
 
 pub short-needs-less : ShortNeedsLess
-unfolding refusal input_refusal room_refusal row_width or_else
-short-needs-less s sender head known content n = go (or_else (when (ltb 256 (length known)) 3) (when (bad_content content) 4))
+unfolding refusal input_refusal room_refusal row_width
+short-needs-less s sender head known content n = go (option_or (when (ltb 256 (length known)) 3) (when (bad_content content) 4))
   where
     entries : ℕ
     entries = length (entries_of sender s.entries)
 
-    go : (i : Option ℕ) → or_else i (when (ltb n (19 * entries)) 5) ≡ none → or_else i (when (ltb n (5 * entries)) 5) ≡ none
-    go (some m) h = h
-    go none h = less-room n entries h
+    go : (i : Option ℕ) → option_or i (when (ltb n (19 * entries)) 5) ≡ None → option_or i (when (ltb n (5 * entries)) 5) ≡ None
+    go (Some m) h = h
+    go None h = less-room n entries h

@@ -4,7 +4,7 @@ use native.Mathlib.Omega.{arith}
 use mathlib.Core.Path.{◌≡◌, refl}
 use mathlib.Core.Bool.{Bool, true, false, ◌&&◌, cond}
 use mathlib.Core.List.{List, [], ◌∷◌, ◌++◌}
-use mathlib.Core.Option.{Option, none, some}
+use Rattle.std.specs.Prelude.{Option, None, Some}
 use lib.Dec.{eqb, leb}
 use lib.ListN.{length, take, drop, length-append, take-append-drop}
 use Rattle.lists.specs.Bytes.{Bytes, eq_bytes}
@@ -108,9 +108,9 @@ Rescues s r = length s.entries ≡ length r.0.entries + rescued_in r.1
 
 poll-rescues : (s : Store) (o : Option ℕ) (a : Bytes) (head : ℕ) (known : List ℕ) (content : Option Content) → Rescues s (unless o s (effect s (poll a head known content)))
 unfolding unless effect walked rescued_in rows_of keep
-poll-rescues s none a head known content =
+poll-rescues s None a head known content =
     omega (arith, walk-length rescues rescues-append (only_of a (poll_rule head known content)) (poll-once a head known content) s.entries s.guards)
-poll-rescues s (some n) a head known content = omega arith
+poll-rescues s (Some n) a head known content = omega arith
 
 -- all that a store holds or accepts is left, was rescued, is dead or was evicted
 abbrev Balance : Store → Bool → Store × Answer → Type 0
@@ -119,7 +119,7 @@ Balance s evicts r = length s.entries + accepted_in r.1 ≡ length r.0.entries +
 effect-balance : (s : Store) (c : Call) → Balance s (is_eviction c) (effect s c)
 unfolding effect walked unless accepted_in rescued_in rows_of keep dead_in listed
 effect-balance s (push f) = omega (arith, insert-length (fresh f) s.entries)
-effect-balance s (poll a head known content) = omega (arith, poll-rescues s none a head known content)
+effect-balance s (poll a head known content) = omega (arith, poll-rescues s None a head known content)
 effect-balance s (guard g) = omega arith
 effect-balance s (enter_tentative h c) = omega (arith, enter-length h c s.entries)
 effect-balance s (check_reorg b canonical) = omega (arith, walk-length (λ l. 0) (λ xs ys. refl) (reorg_rule b canonical) (reorg-once b canonical) s.entries s.guards)
@@ -129,9 +129,9 @@ effect-balance s (evict_sender a) = omega (arith, walk-length length length-appe
 -- what is refused leaves the store as it is, and nothing of it is counted
 unless-balance : (s : Store) (evicts : Bool) (o : Option ℕ) (r : Store × Answer) → Balance s evicts r → Balance s evicts (unless o s r)
 unfolding unless accepted_in rescued_in rows_of keep dead_in listed
-unless-balance s evicts none r h = h
-unless-balance s true (some n) r h = omega arith
-unless-balance s false (some n) r h = omega arith
+unless-balance s evicts None r h = h
+unless-balance s true (Some n) r h = omega arith
+unless-balance s false (Some n) r h = omega arith
 
 step-balance : (s : Store) (q : Request) → Balance s (is_eviction q.call) (step s q)
 unfolding step
@@ -145,9 +145,9 @@ unfolding polls_from in_turn run rows_listed step rescued_in rows_of keep
 polls-rescue s senders [] cs nonces numbers = omega arith
 polls-rescue s senders (h ∷ hs) [] nonces numbers = omega arith
 polls-rescue s senders (h ∷ hs) (c ∷ cs) nonces numbers =
-    let q = lent (poll (take 20 senders) h (take c nonces) none) numbers in
+    let q = lent (poll (take 20 senders) h (take c nonces) None) numbers in
     let left = numbers - length (numbers_of long (step s q).1) in
-    rw rescues-append (omega (arith, poll-rescues s (refusal s q) (take 20 senders) h (take c nonces) none, polls-rescue (step s q).0 (drop 20 senders) hs cs (drop c nonces) left))
+    rw rescues-append (omega (arith, poll-rescues s (refusal s q) (take 20 senders) h (take c nonces) None, polls-rescue (step s q).0 (drop 20 senders) hs cs (drop c nonces) left))
 
 sweep-balance : (s : Store) (w : Sweep) → Balance s false (sweep_step s w)
 unfolding sweep_step sweep_effect polls_in accepted_in dead_in

@@ -1,7 +1,7 @@
 -- What holds of every refusal: its number is one of its place's, what it hangs on, and that a refused call changes nothing; the
 -- same of sweeps, and that no poll of a sweep is refused unless the sweep is.
 use Rattle.std.specs.Prelude.{ℕ, ◌*◌, ◌≤◌, ◌≡◌, true, false, List, [], ◌∷◌, length}
-use Rattle.std.proofs.Math.Option.{none, some}
+use Rattle.std.specs.Prelude.{None, Some}
 use Rattle.lists.specs.Bytes.{Bytes}
 use Rattle.lists.specs.Lists.{Each, sum, is_in}
 use Rattle.store_rules.specs.Frames.{Row}
@@ -22,21 +22,21 @@ place_numbers (evict_sender a) = 5 ∷ []
 
 -- a refusal is one of its place's
 abbrev pub RefusedByPlace : Type 0
-RefusedByPlace = (s : Store) (q : Request) (n : ℕ) → refusal s q ≡ some n → is_in n (place_numbers q.call) ≡ true
+RefusedByPlace = (s : Store) (q : Request) (n : ℕ) → refusal s q ≡ Some n → is_in n (place_numbers q.call) ≡ true
 
 -- refusals but 2, 5 and 8 hang on inputs alone: they are the same at every store
 abbrev pub RefusedByInputs : Type 0
-RefusedByInputs = (s t : Store) (q : Request) (n : ℕ) → refusal s q ≡ some n → is_in n (2 ∷ 5 ∷ 8 ∷ []) ≡ false → refusal t q ≡ some n
+RefusedByInputs = (s t : Store) (q : Request) (n : ℕ) → refusal s q ≡ Some n → is_in n (2 ∷ 5 ∷ 8 ∷ []) ≡ false → refusal t q ≡ Some n
 
 -- the calls that only read and list: blocks, senders, nonces
 pub record ReadingRefused (s : Store) : Type 0 where
-  pub blocks : (numbers bytes n : ℕ) → blocks_refusal s numbers bytes ≡ some n → n ≡ 5
-  pub senders : (bytes n : ℕ) → senders_refusal s bytes ≡ some n → n ≡ 5
-  pub nonces : (sender : Bytes) (head pending_count numbers n : ℕ) → gap_refusal sender head pending_count s numbers ≡ some n → n ≡ 5
+  pub blocks : (numbers bytes n : ℕ) → blocks_refusal s numbers bytes ≡ Some n → n ≡ 5
+  pub senders : (bytes n : ℕ) → senders_refusal s bytes ≡ Some n → n ≡ 5
+  pub nonces : (sender : Bytes) (head pending_count numbers n : ℕ) → gap_refusal sender head pending_count s numbers ≡ Some n → n ≡ 5
 
 -- a refused call answers its number and changes nothing
 abbrev pub RefusedChangesNothing : Type 0
-RefusedChangesNothing = (s : Store) (q : Request) (n : ℕ) → refusal s q ≡ some n → step s q ≡ (s, refused n)
+RefusedChangesNothing = (s : Store) (q : Request) (n : ℕ) → refusal s q ≡ Some n → step s q ≡ (s, refused n)
 
 -- ---- sweeps (request 2027-05)
 
@@ -48,12 +48,12 @@ sweep_numbers = 17 ∷ 18 ∷ 3 ∷ 5 ∷ []
 pub record SweepRefused (s : Store) (w : Sweep) (n : ℕ) : Type 0 where
   pub number : is_in n sweep_numbers ≡ true
   -- but for 5, it hangs on inputs alone: it is the same at every store
-  pub inputs : (n ≡ 5 → ⊥) → (t : Store) → sweep_refusal t w ≡ some n
+  pub inputs : (n ≡ 5 → ⊥) → (t : Store) → sweep_refusal t w ≡ Some n
   -- it is answered, and nothing changes
   pub unchanged : sweep_step s w ≡ (s, refused n)
 
 abbrev pub EverySweepRefusal : Type 0
-EverySweepRefusal = (s : Store) (w : Sweep) (n : ℕ) → sweep_refusal s w ≡ some n → SweepRefused s w n
+EverySweepRefusal = (s : Store) (w : Sweep) (n : ℕ) → sweep_refusal s w ≡ Some n → SweepRefused s w n
 
 -- inputs for which a sweep is refused with none of 17, 18 and 3
 pub record SoundInputs (w : Sweep) : Type 0 where
@@ -65,9 +65,9 @@ pub record SoundInputs (w : Sweep) : Type 0 where
 
 -- a sweep is refused for its inputs exactly when they are not sound
 pub record RefusedUnsound (w : Sweep) : Type 0 where
-  pub sound : sweep_input_refusal w ≡ none → SoundInputs w
-  pub accepted : SoundInputs w → sweep_input_refusal w ≡ none
+  pub sound : sweep_input_refusal w ≡ None → SoundInputs w
+  pub accepted : SoundInputs w → sweep_input_refusal w ≡ None
 
 -- no poll of a sweep that is not refused is refused: each answers rows
 abbrev pub SweepPollsAnswer : Type 0
-SweepPollsAnswer = (s : Store) (w : Sweep) → sweep_refusal s w ≡ none → Each (λ (t : Call × Answer). (l : List Row) × (t.1 ≡ rows l)) (transcript s (polls_in s w))
+SweepPollsAnswer = (s : Store) (w : Sweep) → sweep_refusal s w ≡ None → Each (λ (t : Call × Answer). (l : List Row) × (t.1 ≡ rows l)) (transcript s (polls_in s w))

@@ -1,6 +1,6 @@
 -- Request 2027-03: what a short row says of the nonces that the long row lists, and that short rows tell what long ones do.
 use Rattle.std.specs.Prelude.{ℕ, ◌+◌, ◌/◌, ◌%◌, ◌^◌, ◌<◌, ◌≡◌, true, List, map, length, take, drop, get_or}
-use Rattle.std.proofs.Math.Option.{Option, none}
+use Rattle.std.specs.Prelude.{Option, None}
 use Rattle.lists.specs.Bytes.{Bytes}
 use Rattle.lists.specs.Lists.{is_in, chunks, Each}
 use Rattle.short_rows.specs.Mark.{bit, marked_nonces}
@@ -68,10 +68,10 @@ polls form sender head known content numbers = record { call = poll sender head 
 -- where neither is refused
 abbrev pub ShortAsLong : Type 0
 ShortAsLong = (s : Store) (sender : Bytes) (head : ℕ) (known : List ℕ) (content : Option Content) (n m : ℕ) →
-    refusal s (polls long sender head known content n) ≡ none → refusal s (polls short sender head known content m) ≡ none →
+    refusal s (polls long sender head known content n) ≡ None → refusal s (polls short sender head known content m) ≡ None →
     SamePoll s (polls long sender head known content n) (polls short sender head known content m)
 
 -- a slice that is long enough for the long rows is so for the short ones
 abbrev pub ShortNeedsLess : Type 0
 ShortNeedsLess = (s : Store) (sender : Bytes) (head : ℕ) (known : List ℕ) (content : Option Content) (n : ℕ) →
-    refusal s (polls long sender head known content n) ≡ none → refusal s (polls short sender head known content n) ≡ none
+    refusal s (polls long sender head known content n) ≡ None → refusal s (polls short sender head known content n) ≡ None

@@ -5,7 +5,7 @@ use native.Mathlib.Numerals.{add-one}
 use native.Mathlib.Omega.{arith}
 use mathlib.Core.Path.{◌≡◌, refl}
 use mathlib.Core.Bool.{Bool, false, cond}
-use mathlib.Core.Option.{Option, none, some}
+use Rattle.std.specs.Prelude.{Option, None, Some}
 use mathlib.Core.List.{List, [], ◌∷◌, ◌++◌, append-nil, map}
 use lib.ListN.{length, take, get_or, set, length-append}
 use Rattle.lists.specs.Bytes.{Bytes}
@@ -136,14 +136,14 @@ module _ {A : Type 0} (rule : Option Guard → Entry → Visit A) (f g : A → L
               }
 
           -- it is listed, and stays as `y`
-          pub kept : (z : Standing) (y : coded.Entry) → o ≡ some z → entry_of y ≡ record { frame = frame_of e.frame; standing = z } →
+          pub kept : (z : Standing) (y : coded.Entry) → o ≡ Some z → entry_of y ≡ record { frame = frame_of e.frame; standing = z } →
               Going (set entries w y) labels' numbers' bytes' (n + 1) (w + 1) (i + 1)
           kept z y is same =
               listed (set entries w y) (w + 1)
               (λ b l. stays rule len _ entries (live labels b) s.told w i (s.walking b l) d more s.setting.fits drops (x ∷ []) (live labels' b) (dropped b l) z y same (rw is at (visit b l)))
 
           -- it is listed, and leaves
-          pub left : o ≡ none → Going entries labels' numbers' bytes' (n + 1) w (i + 1)
+          pub left : o ≡ None → Going entries labels' numbers' bytes' (n + 1) w (i + 1)
           left is =
               listed entries w
               (λ b l. leaves rule len _ entries (live labels b) s.told w i (s.walking b l) d more s.setting.fits drops (x ∷ []) (live labels' b) (dropped b l) (rw is at (visit b l)))

@@ -4,7 +4,9 @@ use native.Mathlib.Omega.{arith}
 use mathlib.Core.Path.{◌≡◌, refl, sym, ap, ◌∙◌, subst}
 use mathlib.Core.Bool.{Bool, true, false, cond, false≢true}
 use mathlib.Core.List.{List, [], ◌∷◌, ◌++◌}
-use mathlib.Core.Option.{Option, none, some, map, some-ne-none}
+use Rattle.std.specs.Prelude.{Option, None, Some}
+use Rattle.std.specs.Option.{option_map}
+use Rattle.lists.proofs.Options.{some-ne-none}
 use lib.ListN.{length, take, drop, take-append-drop}
 use Rattle.lists.specs.Bytes.{Bytes, eq_bytes}
 use Rattle.lists.specs.Lists.{keep, Each}
@@ -23,7 +25,7 @@ place_behind e w = cond (eq_bytes e.frame.from w.sender) (suc w.place) w.place
 unfoldable pub behind : Entry → Found → Found
 behind e f = record { entry = f.entry; whose = record { sender = f.whose.sender; place = place_behind e f.whose } }
 
-first-behind : (e : Entry) (before rest : List Entry) → first_of (e ∷ before) rest ≡ map (behind e) (first_of before rest)
+first-behind : (e : Entry) (before rest : List Entry) → first_of (e ∷ before) rest ≡ option_map (behind e) (first_of before rest)
 unfolding first_of found_behind behind place_behind entries_of keep
 first-behind e before [] = refl
 first-behind e before (x ∷ rest) = go (eq_bytes e.frame.from x.frame.from)
@@ -32,19 +34,19 @@ first-behind e before (x ∷ rest) = go (eq_bytes e.frame.from x.frame.from)
     own = keep (λ y. eq_bytes y.frame.from x.frame.from) before
 
     at : ℕ → Option Found
-    at n = some (record { entry = x; whose = record { sender = x.frame.from; place = n } })
+    at n = Some (record { entry = x; whose = record { sender = x.frame.from; place = n } })
 
     go : (b : Bool) → at (length (cond b (e ∷ own) own)) ≡ at (cond b (suc (length own)) (length own))
     go true = refl
     go false = refl
 
-pub lookup-nil : (p : Entry → Bool) → lookup p [] ≡ none
+pub lookup-nil : (p : Entry → Bool) → lookup p [] ≡ None
 unfolding lookup first_at first_of
 lookup-nil p = refl
 
 -- the first entry is found, or what is found behind it
 pub lookup-cons : (p : Entry → Bool) (e : Entry) (es : List Entry) →
-    lookup p (e ∷ es) ≡ cond (p e) (some (found_behind [] e)) (map (behind e) (lookup p es))
+    lookup p (e ∷ es) ≡ cond (p e) (Some (found_behind [] e)) (option_map (behind e) (lookup p es))
 unfolding lookup first_at first_of
 lookup-cons p e es = go (p e)
   where
@@ -52,7 +54,7 @@ lookup-cons p e es = go (p e)
     k = first_at p es
 
     go : (b : Bool) → first_of (take (cond b zero (suc k)) (e ∷ es)) (drop (cond b zero (suc k)) (e ∷ es))
-        ≡ cond b (some (found_behind [] e)) (map (behind e) (first_of (take k es) (drop k es)))
+        ≡ cond b (Some (found_behind [] e)) (option_map (behind e) (first_of (take k es) (drop k es)))
     go true = refl
     go false = first-behind e (take k es) (drop k es)
 
@@ -70,12 +72,12 @@ enter-cons h c e es = go (enters h e)
 
 -- ---- where nothing is found
 
-enter-nothing : (c : Consumed) (before rest : List Entry) → first_of before rest ≡ none → before ++ enter_head c rest ≡ before ++ rest
+enter-nothing : (c : Consumed) (before rest : List Entry) → first_of before rest ≡ None → before ++ enter_head c rest ≡ before ++ rest
 unfolding first_of enter_head
 enter-nothing c before [] e = refl
 enter-nothing c before (x ∷ rest) e = absurd (some-ne-none (found_behind before x) e)
 
-pub enter-none : (h : Bytes) (c : Consumed) (es : List Entry) → lookup (enters h) es ≡ none → enter_first h c es ≡ es
+pub enter-none : (h : Bytes) (c : Consumed) (es : List Entry) → lookup (enters h) es ≡ None → enter_first h c es ≡ es
 unfolding lookup enter_first
 enter-none h c es e = enter-nothing c (take (first_at (enters h) es) es) (drop (first_at (enters h) es) es) e ∙ take-append-drop (first_at (enters h) es) es
 
@@ -100,13 +102,13 @@ module _ (p : Entry → Bool) (q : Bytes → Bool) where
   Only = Each (λ e. p e ≡ true → q e.frame.from ≡ true)
 
   abbrev SenderPasses : Option Found → Type 0
-  SenderPasses none = Unit {0}
-  SenderPasses (some f) = q f.whose.sender ≡ true
+  SenderPasses None = Unit {0}
+  SenderPasses (Some f) = q f.whose.sender ≡ true
 
-  sender-behind : (e : Entry) (o : Option Found) → SenderPasses o → SenderPasses (map (behind e) o)
+  sender-behind : (e : Entry) (o : Option Found) → SenderPasses o → SenderPasses (option_map (behind e) o)
   unfolding behind
-  sender-behind e none h = h
-  sender-behind e (some f) h = h
+  sender-behind e None h = h
+  sender-behind e (Some f) h = h
 
   sender-passes : (es : List Entry) → Only es → SenderPasses (lookup p es)
   unfolding found_behind
@@ -114,18 +116,18 @@ module _ (p : Entry → Bool) (q : Bytes → Bool) where
   sender-passes (e ∷ es) h = rw (lookup-cons p e es) (go (p e) h.0 (sender-passes es h.1))
     where
       go : (b : Bool) → (b ≡ true → q e.frame.from ≡ true) → SenderPasses (lookup p es) →
-          SenderPasses (cond b (some (found_behind [] e)) (map (behind e) (lookup p es)))
+          SenderPasses (cond b (Some (found_behind [] e)) (option_map (behind e) (lookup p es)))
       go true y ih = y refl
       go false y ih = sender-behind e (lookup p es) ih
 
   -- an entry of another sender does not move what was found
-  unmoved : (e : Entry) → q e.frame.from ≡ false → (o : Option Found) → SenderPasses o → o ≡ map (behind e) o
+  unmoved : (e : Entry) → q e.frame.from ≡ false → (o : Option Found) → SenderPasses o → o ≡ option_map (behind e) o
   unfolding behind place_behind
-  unmoved e n none h = refl
-  unmoved e n (some f) h = go (eq_bytes e.frame.from f.whose.sender) refl
+  unmoved e n None h = refl
+  unmoved e n (Some f) h = go (eq_bytes e.frame.from f.whose.sender) refl
     where
       at : ℕ → Option Found
-      at m = some (record { entry = f.entry; whose = record { sender = f.whose.sender; place = m } })
+      at m = Some (record { entry = f.entry; whose = record { sender = f.whose.sender; place = m } })
 
       go : (b : Bool) → eq_bytes e.frame.from f.whose.sender ≡ b → at f.whose.place ≡ at (cond b (suc f.whose.place) f.whose.place)
       go true t = clash (subst (λ (a : Bytes). q a ≡ true) (sym (eq_bytes-true e.frame.from f.whose.sender t)) h) n
@@ -140,6 +142,6 @@ module _ (p : Entry → Bool) (q : Bytes → Bool) where
       kept = keep (λ x. q x.frame.from) es
 
       go : (m : Bool) → q e.frame.from ≡ m → (b : Bool) → p e ≡ b → lookup p kept ≡ lookup p es → lookup p (cond m (e ∷ kept) kept) ≡ lookup p (e ∷ es)
-      go true y b t ih = lookup-cons p e kept ∙ ap (λ (o : Option Found). cond (p e) (some (found_behind [] e)) (map (behind e) o)) ih ∙ sym (lookup-cons p e es)
+      go true y b t ih = lookup-cons p e kept ∙ ap (λ (o : Option Found). cond (p e) (Some (found_behind [] e)) (option_map (behind e) o)) ih ∙ sym (lookup-cons p e es)
       go false n true t ih = clash (h.0 t) n
       go false n false t ih = ih ∙ unmoved e n (lookup p es) (sender-passes es h.1) ∙ rw (lookup-cons p e es, t)

@@ -3,7 +3,7 @@ use Prim.Native.Nat.{ℕ}
 use mathlib.Core.Path.{◌≡◌, refl, sym, ap}
 use mathlib.Core.Bool.{Bool, true, false, not, cond}
 use mathlib.Core.List.{List, []}
-use mathlib.Core.Option.{some}
+use Rattle.std.specs.Prelude.{Some}
 use lib.Dec.{ltb}
 use Rattle.lists.specs.Lists.{is_empty}
 use Rattle.store_rules.specs.Frames.{State, tracked, tentative, is_tracked, Entry, degraded, rescue, nonce_consumed, still_waiting, Row, Visit}
@@ -20,7 +20,7 @@ pub data PollCase (head : ℕ) (known : List ℕ) (guarded : Bool) (e : Entry) :
       PollCase head known guarded e (stay e.standing [])
   hold : is_tracked e.standing.state ≡ true → ltb e.frame.claim head ≡ false → degraded e.frame ≡ true → held_at e.standing.held head ≡ false →
       PollCase head known guarded e
-      (stay (record { state = e.standing.state; held = some head }) (row e.frame still_waiting (unknown head known e.frame)))
+      (stay (record { state = e.standing.state; held = Some head }) (row e.frame still_waiting (unknown head known e.frame)))
   -- rule 5
   waits : is_tracked e.standing.state ≡ true → ltb e.frame.claim head ≡ false → degraded e.frame ≡ false → is_empty (unknown head known e.frame) ≡ false →
       PollCase head known guarded e (stay e.standing (row e.frame still_waiting (unknown head known e.frame)))
@@ -46,7 +46,7 @@ poll-case head known guarded e = in-state e.standing.state refl
             (cond d
             (cond p (stay e.standing (row e.frame nonce_consumed []))
             (cond h (stay e.standing [])
-            (stay (record { state = e.standing.state; held = some head }) (row e.frame still_waiting (unknown head known e.frame)))))
+            (stay (record { state = e.standing.state; held = Some head }) (row e.frame still_waiting (unknown head known e.frame)))))
             (cond p (stay e.standing (row e.frame nonce_consumed []))
             (cond (not u) (stay e.standing (row e.frame still_waiting (unknown head known e.frame)))
             (cond g (stay e.standing (row e.frame still_waiting (predecessors head e.frame)))

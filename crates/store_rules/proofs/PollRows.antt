@@ -4,7 +4,7 @@ use native.Mathlib.Omega.{arith}
 use mathlib.Core.Path.{◌≡◌, refl}
 use mathlib.Core.Bool.{Bool, true, false, cond}
 use mathlib.Core.List.{List, [], ◌∷◌, ◌++◌}
-use mathlib.Core.Option.{Option, none, some}
+use Rattle.std.specs.Prelude.{Option, None, Some}
 use lib.ListN.{length, length-append}
 use Rattle.lists.specs.Bytes.{Bytes, eq_bytes}
 use Rattle.lists.specs.Lists.{keep, collect, Each}
@@ -72,8 +72,8 @@ unfolding step unless rows_of
 step-narrow s q = go (refusal s q)
   where
     go : (o : Option ℕ) → Each Narrow (rows_of (unless o s (effect s q.call)).1)
-    go none = effect-narrow s q.call
-    go (some n) = tt
+    go None = effect-narrow s q.call
+    go (Some n) = tt
 
 -- ---- a poll gives at most one row for each entry of the sender
 
@@ -128,8 +128,8 @@ module _ (s : Store) (form : RowForm) (sender : Bytes) (head : ℕ) (known : Lis
     where
       go : (o : Option ℕ) →
           numbers_of form (unless o s (effect s (poll sender head known content))).1 ≡ collect (row_numbers form) (rows_of (unless o s (effect s (poll sender head known content))).1)
-      go none = refl
-      go (some n) = refl
+      go None = refl
+      go (Some n) = refl
 
   pub poll-length : length (numbers_of form polled) ≡ row_width form * length (rows_of polled)
   poll-length = rw poll-writes (rows-length form (rows_of polled) (step-narrow s (record { call = poll sender head known content; form = form; numbers = numbers; bytes = 0 })))

@@ -1,171 +1,111 @@
--- A search that walks from the last entry to the first: one entry more; the loop over an array; and what it ends with.
-use Prim.Native.Nat.{ℕ, zero, suc, ◌+◌, ◌-◌, ◌≤◌, ◌<◌, min}
-use native.Mathlib.Numerals.{add-one}
+-- The lookup over the code's entries: the first that passes a test, and how many of its sender's stand before it.
+use Prim.Native.Nat.{ℕ, zero, suc, ◌+◌, ◌≤◌, ◌<◌}
 use native.Mathlib.Omega.{arith}
 use mathlib.Core.Path.{◌≡◌, refl, sym, ap, ◌∙◌}
-use mathlib.Core.Bool.{Bool, true, false, cond}
+use mathlib.Core.Bool.{Bool, true, false, not, cond}
 use mathlib.Core.List.{List, [], ◌∷◌, map}
-use mathlib.Core.Option
-use mathlib.Core.Option.{Option, none, some, some-injective, none-ne-some}
-use lib.ListN.{length, take, drop, get_or, length-take, length-drop, length-map}
-use lib.Seq.{get_or-take}
-use Rattle.lists.specs.Bytes.{Bytes, eq_bytes}
+use Rattle.std.specs.Prelude.{Option, None, Some}
+use Rattle.std.specs.Option.{option_map}
+use Rattle.std.specs.List.{count_by, filter, position, position_or_len}
+use Rattle.std.proofs.lemmas.List.Sums.{length-filter}
+use Rattle.std.proofs.lemmas.List.{take-map, drop-map}
+use lib.ListN.{length, take, drop, get_or, length-map, drop_of_length-le}
+use lib.Seq.{drop-cons}
+use lib.Dec.{ltb}
+use borrow.Author.Tests.{ltb-true, ltb-false}
+use Rattle.lists.proofs.Options.{some-injective, none-ne-some, some-ne-none}
 use Rattle.lists.specs.Lists.{keep}
 use Rattle.lists.specs.Search.{first_at}
-use Rattle.lists.proofs.Compacting.{rest-on, rest-none}
-use Rattle.lists.proofs.Same.{and-false}
 use Rattle.store_rules.specs.Frames.{Entry}
-use Rattle.store_rules.specs.Lookup.{entries_of, Found, whose_found, found_behind, first_of, lookup, is_found}
+use Rattle.store_rules.specs.Lookup.{Found, entries_of, found_behind, first_of, lookup}
 use Rattle.store_rules.specs.View.{entry_of}
-use Rattle.store_rules.specs.Searching.{whose_shown, unwalked, whose_behind, walked_on}
+use Rattle.store_rules.specs.Searching.{found_first}
 use Rattle.store_rules.specs.declared.Entry as coded
-use Rattle.store_rules.specs.declared.lookup.Whose as shown
-use Rattle.store_rules.specs.declared.lookup.Search.{Search}
-use Rattle.store_rules.proofs.Lookups.{place_behind, behind, lookup-nil, lookup-cons, first-within}
+use Rattle.store_rules.specs.declared.lookup.Found as shown
 
--- what is shown of what a lookup found
-abbrev pub showing : Option Found → shown.Whose
-showing o = whose_shown (whose_found o)
+-- ---- how many pass a test
 
--- what the search among these entries, the first of which stands at i, has found
-pub record Searched (p : Entry → Bool) (es : List Entry) (i : ℕ) (s : Search) : Type 0 where
-  pub at : s.at ≡ i + first_at p es
-  pub whose : s.whose ≡ showing (lookup p es)
-
-begins : (p : Entry → Bool) (len : ℕ) → Searched p [] len (unwalked len)
-unfolding first_at lookup first_of
-begins p len = record { at = omega arith; whose = refl }
-
--- ---- one entry more in front
-
-shown-behind : (e : Entry) (o : Option Found) → whose_behind e.frame.from (showing o) ≡ showing (Option.map (behind e) o)
-unfolding behind place_behind
-shown-behind e none = refl
-shown-behind e (some f) = go (eq_bytes e.frame.from f.whose.sender)
-  where
-    at : ℕ → shown.Whose
-    at n = record { found = true; sender = f.whose.sender; place = n }
-
-    go : (b : Bool) → cond b (at (f.whose.place + 1)) (at f.whose.place) ≡ at (cond b (suc f.whose.place) f.whose.place)
-    go true = ap at (add-one f.whose.place)
-    go false = refl
-
-searched-on : (p : Entry → Bool) (e : Entry) (es : List Entry) (i : ℕ) (s : Search) → Searched p es (i + 1) s → Searched p (e ∷ es) i (walked_on (p e) i e.frame.from s)
-unfolding first_at found_behind entries_of keep
-searched-on p e es i s h = go (p e) refl
-  where
-    go : (b : Bool) → p e ≡ b → Searched p (e ∷ es) i (walked_on b i e.frame.from s)
-    go true t = record { at = rw t (omega arith); whose = rw (lookup-cons p e es, t) }
-    go false t = record {
-      at = rw t (omega (arith, h.at));
-      whose = rw (lookup-cons p e es, t) (ap (whose_behind e.frame.from) h.whose ∙ shown-behind e (lookup p es));
-    }
-
--- what the code's tests say of it
-module _ (from : Bytes) (i : ℕ) (s : Search) (t : Bool) where
-  pub hit : t ≡ true → record { at = i; whose = record { found = true; sender = from; place = 0 } } ≡ walked_on t i from s
-  hit h = rw h
-
-  pub not_found : t ≡ false → s.whose.found ≡ false → s ≡ walked_on t i from s
-  not_found h n = rw (h, n)
-
-  pub of-another : t ≡ false → eq_bytes from s.whose.sender ≡ false → s ≡ walked_on t i from s
-  of-another h n = rw (h, n, and-false s.whose.found)
-
-  pub of-the-sender : t ≡ false → s.whose.found ≡ true → eq_bytes from s.whose.sender ≡ true →
-      record { at = s.at; whose = record { found = true; sender = s.whose.sender; place = s.whose.place + 1 } } ≡ walked_on t i from s
-  of-the-sender h y n = rw (h, y, n)
-
--- ---- how far the place goes, and where the entry stands
-
+-- as many of the code's entries pass as of those seen
 module _ (p : Entry → Bool) where
-  place-few : (es : List Entry) → (showing (lookup p es)).place ≤ length es
-  unfolding found_behind behind place_behind entries_of keep
-  place-few [] = rw (lookup-nil p) (omega arith)
-  place-few (e ∷ es) = rw (lookup-cons p e es) (go (p e) (lookup p es) (place-few es))
+  kept : (es : List coded.Entry) → length (filter (λ e. p (entry_of e)) es) ≡ length (keep p (map entry_of es))
+  unfolding keep
+  kept [] = refl
+  kept (e ∷ es) = go (p (entry_of e)) (kept es)
     where
-      go : (b : Bool) (o : Option Found) → (showing o).place ≤ length es →
-          (showing (cond b (some (found_behind [] e)) (Option.map (behind e) o))).place ≤ suc (length es)
-      go true o ih = omega arith
-      go false none ih = omega arith
-      go false (some f) ih = further (eq_bytes e.frame.from f.whose.sender)
-        where
-          further : (b : Bool) → cond b (suc f.whose.place) f.whose.place ≤ suc (length es)
-          further true = omega arith
-          further false = omega arith
+      go : (b : Bool) → length (filter (λ x. p (entry_of x)) es) ≡ length (keep p (map entry_of es)) →
+          length (cond b (e ∷ filter (λ x. p (entry_of x)) es) (filter (λ x. p (entry_of x)) es)) ≡ length (cond b (entry_of e ∷ keep p (map entry_of es)) (keep p (map entry_of es)))
+      go true ih = ap suc ih
+      go false ih = ih
 
-pub found-shown : (o : Option Found) → (showing o).found ≡ is_found o
-unfolding is_found
-found-shown none = refl
-found-shown (some f) = refl
+  pub counted : (es : List coded.Entry) → count_by (λ e. p (entry_of e)) es ≡ length (keep p (map entry_of es))
+  counted es = sym (length-filter (λ e. p (entry_of e)) es) ∙ kept es
+
+  -- ---- where the first that passes stands
+
+  first-place : (es : List coded.Entry) → position_or_len (λ e. p (entry_of e)) es ≡ first_at p (map entry_of es)
+  unfolding first_at
+  first-place [] = refl
+  first-place (e ∷ es) = go (p (entry_of e)) (first-place es)
+    where
+      go : (b : Bool) → position_or_len (λ x. p (entry_of x)) es ≡ first_at p (map entry_of es) →
+          cond (not b) (1 + position_or_len (λ x. p (entry_of x)) es) 0 ≡ cond b zero (suc (first_at p (map entry_of es)))
+      go true ih = refl
+      go false ih = omega (arith, ih)
+
+  pub found-none : (es : List coded.Entry) → None ≡ position (λ e. p (entry_of e)) es → None ≡ found_first p (map entry_of es)
+  unfolding lookup first_of
+  found-none es h = go (ltb (position_or_len (λ e. p (entry_of e)) es) (length es)) refl h
+    where
+      go : (b : Bool) → ltb (position_or_len (λ e. p (entry_of e)) es) (length es) ≡ b → None ≡ cond b (Some (position_or_len (λ e. p (entry_of e)) es)) None → None ≡ found_first p (map entry_of es)
+      go true t e = absurd (none-ne-some _ e)
+      go false t e =
+          let past : length (map entry_of es) ≤ first_at p (map entry_of es) = simp length-map (omega (arith, ltb-false _ _ t, first-place es)) in
+          rw (drop_of_length-le (map entry_of es) past)
+
+  pub found-some : (es : List coded.Entry) (i : ℕ) (d : coded.Entry) → Some i ≡ position (λ e. p (entry_of e)) es →
+      Some (record { at = i; whose = record { sender = (get_or es i d).frame.from; place = length (entries_of (get_or es i d).frame.from (map entry_of (take i es))) } }) ≡ found_first p (map entry_of es)
+  unfolding lookup first_of found_behind
+  found-some es i d h = go (ltb (position_or_len (λ e. p (entry_of e)) es) (length es)) refl h
+    where
+      go : (b : Bool) → ltb (position_or_len (λ e. p (entry_of e)) es) (length es) ≡ b → Some i ≡ cond b (Some (position_or_len (λ e. p (entry_of e)) es)) None →
+          Some (record { at = i; whose = record { sender = (get_or es i d).frame.from; place = length (entries_of (get_or es i d).frame.from (map entry_of (take i es))) } }) ≡ found_first p (map entry_of es)
+      go false t e = absurd (some-ne-none _ e)
+      go true t e =
+          let at : first_at p (map entry_of es) ≡ i = sym (first-place es) ∙ sym (some-injective _ _ e) in
+          let within : i < length es = omega (arith, ltb-true _ _ t, first-place es, at) in
+          rw (at, take-map entry_of i es, drop-map entry_of i es, drop-cons es i d)
+
+-- ---- what was found
 
 -- the entry found, in the array
-found-there : (before : List Entry) (l : List coded.Entry) (k : ℕ) (d : coded.Entry) (f : Found) → first_of before (drop k (map entry_of l)) ≡ some f → entry_of (get_or l k d) ≡ f.entry
+found-there : (before : List Entry) (es : List coded.Entry) (k : ℕ) (d : coded.Entry) (f : Found) → first_of before (drop k (map entry_of es)) ≡ Some f → entry_of (get_or es k d) ≡ f.entry
 unfolding first_of found_behind
 found-there before [] zero d f e = absurd (none-ne-some f e)
 found-there before [] (suc k) d f e = absurd (none-ne-some f e)
-found-there before (x ∷ l) zero d f e = ap (λ (g : Found). g.entry) (some-injective _ f e)
-found-there before (x ∷ l) (suc k) d f e = found-there before l k d f e
+found-there before (x ∷ es) zero d f e = ap (λ (g : Found). g.entry) (some-injective _ f e)
+found-there before (x ∷ es) (suc k) d f e = found-there before es k d f e
 
--- ---- the loop over the first n entries of an array, from the last to the first
+module _ (p : Entry → Bool) (es : List coded.Entry) where
+  pub looked-up-none : found_first p (map entry_of es) ≡ None → lookup p (map entry_of es) ≡ None
+  looked-up-none e = go (lookup p (map entry_of es)) e
+    where
+      go : (o : Option Found) → option_map {U = shown.Found} (λ f. record { at = first_at p (map entry_of es); whose = f.whose }) o ≡ None → o ≡ None
+      go None h = refl
+      go (Some f) h = absurd (some-ne-none _ h)
 
--- the entries from i to n are walked
-pub record Looking (p : Entry → Bool) (es : List coded.Entry) (n i : ℕ) (s : Search) : Type 0 where
-  pub left : i ≤ n
-  pub few : n ≤ 64
-  pub whole : length es ≡ 64
-  pub walked : Searched p (map entry_of (drop i (take n es))) i s
-
-pub looking-begins : (p : Entry → Bool) (es : List coded.Entry) (len n : ℕ) (s : Search) → length es ≡ 64 → n ≡ min len 64 → s ≡ unwalked n → Looking p es n n s
-looking-begins p es len n s whole is b =
-    record { left = omega arith; few = omega arith; whole = whole; walked = rw (rest-none entry_of es n n (omega arith), b) (begins p n) }
-
-module _ {p : Entry → Bool} {es : List coded.Entry} {n i : ℕ} {s : Search} (l : Looking p es n i s) where
-  pub place-fits : 0 < i → s.whose.place < 64
-  place-fits b =
-      let few : (showing (lookup p (map entry_of (drop i (take n es))))).place ≤ length (map entry_of (drop i (take n es))) = place-few p _ in
-      let size : length (map entry_of (drop i (take n es))) ≤ n - i = simp (length-map, length-drop, length-take) (omega arith) in
-      rw l.walked.whose (omega arith)
-
-  -- one turn, to the entry before
-  pub looking-on : (d : coded.Entry) (s' : Search) → 0 < i →
-      s' ≡ walked_on (p (entry_of (get_or es (i - 1) d))) (i - 1) (get_or es (i - 1) d).frame.from s → Looking p es n (i - 1) s'
-  looking-on d s' b t =
-      let j : i - 1 + 1 ≡ i = omega arith in
-      let more : i - 1 < n = omega arith in
-      let fits : n ≤ length es = omega arith in
-      record {
-        left = omega arith;
-        few = l.few;
-        whole = l.whole;
-        walked = rw (t, rest-on entry_of es n (i - 1) d more fits) (searched-on p (entry_of (get_or es (i - 1) d)) _ (i - 1) s (rw j l.walked));
-      }
-
--- ---- what the loop ends with
-
-module _ {p : Entry → Bool} {es : List coded.Entry} {n : ℕ} {s : Search} (l : Looking p es n 0 s) where
-  pub looked-up : s.whose ≡ showing (lookup p (map entry_of (take n es)))
-  looked-up = l.walked.whose
-
-  pub looked-at : s.at ≡ first_at p (map entry_of (take n es))
-  looked-at = omega (arith, l.walked.at)
-
-  pub at-within : s.whose.found ≡ true → s.at < n
-  at-within y =
-      let found : is_found (lookup p (map entry_of (take n es))) ≡ true = sym (found-shown (lookup p (map entry_of (take n es)))) ∙ ap (λ (w : shown.Whose). w.found) (sym looked-up) ∙ y in
-      let size : length (map entry_of (take n es)) ≤ n = simp (length-map, length-take) (omega arith) in
-      omega (arith, looked-at, first-within p (map entry_of (take n es)) found)
-
-  pub at-fits : s.whose.found ≡ true → s.at < 64
-  at-fits y = omega (arith, at-within y, l.few)
-
-  pub entry-there : (d : coded.Entry) → s.at < n → (f : Found) → lookup p (map entry_of (take n es)) ≡ some f → entry_of (get_or es s.at d) ≡ f.entry
+  pub looked-up : (f : shown.Found) (d : coded.Entry) → found_first p (map entry_of es) ≡ Some f →
+      lookup p (map entry_of es) ≡ Some (record { entry = entry_of (get_or es f.at d); whose = f.whose })
   unfolding lookup
-  entry-there d b f e =
-      let seen : List Entry = map entry_of (take n es) in
-      rw (← get_or-take n es s.at d b, looked-at) (found-there (take (first_at p seen) seen) (take n es) (first_at p seen) d f e)
+  looked-up f d e = go (lookup p (map entry_of es)) refl e
+    where
+      go : (o : Option Found) → lookup p (map entry_of es) ≡ o → option_map (λ g. record { at = first_at p (map entry_of es); whose = g.whose }) o ≡ Some f →
+          o ≡ Some (record { entry = entry_of (get_or es f.at d); whose = f.whose })
+      go None l h = absurd (none-ne-some _ h)
+      go (Some g) l h = rw (← some-injective _ f h, found-there (take (first_at p (map entry_of es)) (map entry_of es)) es (first_at p (map entry_of es)) d g l) refl
 
--- at the loop's end nothing is left
-pub looking-ends : {p : Entry → Bool} {es : List coded.Entry} {n i : ℕ} {s : Search} → Looking p es n i s → i ≤ 0 → Looking p es n 0 s
-looking-ends {i = zero} l b = l
-looking-ends {i = suc i} l b = absurd (omega arith)
+  pub found-at : (f : shown.Found) → found_first p (map entry_of es) ≡ Some f → f.at ≡ first_at p (map entry_of es)
+  found-at f e = go (lookup p (map entry_of es)) e
+    where
+      go : (o : Option Found) → option_map (λ g. record { at = first_at p (map entry_of es); whose = g.whose }) o ≡ Some f → f.at ≡ first_at p (map entry_of es)
+      go None h = absurd (none-ne-some _ h)
+      go (Some g) h = sym (ap (λ (x : shown.Found). x.at) (some-injective _ _ h))

@@ -1,9 +1,11 @@
 -- What the views of the code's values come to.
 use mathlib.Core.Path.{◌≡◌, refl, sym, ap, ◌∙◌}
 use native.Mathlib.Omega.{arith}
-use mathlib.Core.Bool.{false}
-use mathlib.Core.List.{List, append_assoc, map}
+use mathlib.Core.Bool.{Bool, false, ◌&&◌}
+use mathlib.Core.List.{List, [], ◌∷◌, append_assoc, map}
 use Prim.Native.Nat.{ℕ, ◌≤◌}
+use lib.Dec.{eqb}
+use lib.Pointwise.{pointwise}
 use lib.ListN.{length, take, length-take, length-map}
 use lib.Seq.{paste, take-length, drop-drop}
 use Rattle.lists.specs.Bytes.{Bytes, eq_bytes}
@@ -43,3 +45,11 @@ listed-count item l m n z b e = sym (ap length e) ∙ simp (length-map, length-t
 -- bytes copied to a place
 pub pasted : (out : Bytes) (at : ℕ) (l : Bytes) → paste out at l (length l) ≡ written_at at l out
 pasted out at l = rw (take-length l, drop-drop (length l) at out, append_assoc)
+
+-- `==` on numbers, which are compared one by one
+pub equal-is : (xs ys : List ℕ) → eq_bytes xs ys ≡ pointwise eqb xs ys
+unfolding eq_bytes
+equal-is [] [] = refl
+equal-is [] (y ∷ ys) = refl
+equal-is (x ∷ xs) [] = refl
+equal-is (x ∷ xs) (y ∷ ys) = ap (λ (b : Bool). eqb x y && b) (equal-is xs ys)

@@ -4,7 +4,7 @@ use Prim.Native.Nat.{ℕ, ◌+◌, ◌≤◌, ◌<◌}
 use native.Mathlib.Omega.{arith}
 use mathlib.Core.Path.{◌≡◌, refl, sym, ap, ◌∙◌}
 use mathlib.Core.Bool.{Bool, cond}
-use mathlib.Core.Option.{Option, none, some}
+use Rattle.std.specs.Prelude.{Option, None, Some}
 use mathlib.Core.List.{List, [], ◌∷◌, ◌++◌, append_assoc, append-nil, map}
 use lib.ListN.{length, take, drop, get_or, set, length-set, length-append}
 use Rattle.lists.proofs.Compacting.{front-more, rest-on, rest-kept, rest-none}
@@ -17,7 +17,7 @@ use Rattle.store_rules.specs.declared.Entry as coded
 
 module _ {A : Type 0} (rule : Option Guard → Entry → Visit A) (e : Entry) (es : List Entry) (gs gs' : List Guard) (b : Bool) (l : List A)
     (live : cond b (drop_guard e.frame.hash gs) gs ≡ gs') where
-  walk-stays : (s : Standing) → rule (guard_of e.frame.hash gs) e ≡ record { stays = some s; drops = b; lists = l } →
+  walk-stays : (s : Standing) → rule (guard_of e.frame.hash gs) e ≡ record { stays = Some s; drops = b; lists = l } →
       walk rule (e ∷ es) gs
       ≡ record {
         entries = record { frame = e.frame; standing = s } ∷ (walk rule es gs').entries;
@@ -27,7 +27,7 @@ module _ {A : Type 0} (rule : Option Guard → Entry → Visit A) (e : Entry) (e
   unfolding walk after
   walk-stays s h = rw (h, live)
 
-  walk-leaves : rule (guard_of e.frame.hash gs) e ≡ record { stays = none; drops = b; lists = l } →
+  walk-leaves : rule (guard_of e.frame.hash gs) e ≡ record { stays = None; drops = b; lists = l } →
       walk rule (e ∷ es) gs ≡ record { entries = (walk rule es gs').entries; guards = (walk rule es gs').guards; listed = l ++ (walk rule es gs').listed }
   unfolding walk after
   walk-leaves h = rw (h, live)
@@ -88,7 +88,7 @@ module _ {A : Type 0} (rule : Option Guard → Entry → Visit A) (len : ℕ) wh
 
       -- the entry stays as `f`, in front
       pub stays : (s : Standing) (f : coded.Entry) → entry_of f ≡ record { frame = frame_of (get_or entries i d).frame; standing = s } →
-          rule (guard_of (get_or entries i d).frame.hash live) (entry_of (get_or entries i d)) ≡ record { stays = some s; drops = b; lists = l } →
+          rule (guard_of (get_or entries i d).frame.hash live) (entry_of (get_or entries i d)) ≡ record { stays = Some s; drops = b; lists = l } →
           Walking rule len end (set entries w f) live' (told ++ l) (w + 1) (i + 1)
       stays s f same h =
           let hw : w < length entries = omega (arith, t.whole, t.behind) in
@@ -104,7 +104,7 @@ module _ {A : Type 0} (rule : Option Guard → Entry → Visit A) (len : ℕ) wh
           }
 
       -- the entry leaves
-      pub leaves : rule (guard_of (get_or entries i d).frame.hash live) (entry_of (get_or entries i d)) ≡ record { stays = none; drops = b; lists = l } →
+      pub leaves : rule (guard_of (get_or entries i d).frame.hash live) (entry_of (get_or entries i d)) ≡ record { stays = None; drops = b; lists = l } →
           Walking rule len end entries live' (told ++ l) w (i + 1)
       leaves h =
           let step = walk-leaves rule (entry_of (get_or entries i d)) (rest_of len entries (i + 1)) live live' b l drops h in

@@ -1,6 +1,6 @@
 -- What an answer comes to: its number, and the numbers and bytes that it puts into the lent slices.
 use Rattle.std.specs.Prelude.{ℕ, Bool, true, false, List, [], ◌∷◌, ◌++◌, length, replicate}
-use Rattle.std.proofs.Math.Option.{none, some}
+use Rattle.std.specs.Prelude.{None, Some}
 use Rattle.std.specs.Int.Count.{ones}
 use Rattle.lists.specs.Bytes.{Bytes}
 use Rattle.lists.specs.Lists.{collect, written}
@@ -85,8 +85,8 @@ unfoldable pub said : RowForm → Answer → Said
 said form (total n) = says_total n
 said form (rows l) = says_rows form (length l)
 said form recorded = says_recorded
-said form (entered (some w)) = says_entered true w.sender w.place
-said form (entered none) = says_entered false (replicate 20 0) 0
+said form (entered (Some w)) = says_entered true w.sender w.place
+said form (entered None) = says_entered false (replicate 20 0) 0
 said form (frames l) = says_frames (length l)
 said form (dead l) = says_dead (length l)
 said form (refused n) = says_refused n

@@ -1,6 +1,6 @@
 -- What the store holds: frames with their standing, and rescue guards; and what its calls list.
 use Rattle.std.specs.Prelude.{ℕ, Bool, true, false, ◌&&◌, List, eqb}
-use Rattle.std.proofs.Math.Option.{Option}
+use Rattle.std.specs.Prelude.{Option}
 use Rattle.lists.specs.Bytes.{Bytes}
 
 -- ---- an entry: a frame, which never changes, and its standing, which calls change

@@ -1,6 +1,6 @@
 -- What a poll does to one entry: document 01's rules 1 to 7, and the guard's match.
 use Rattle.std.specs.Prelude.{ℕ, ◌-◌, min, Bool, true, false, ◌&&◌, not, cond, List, [], ◌∷◌, eqb, leb, ltb, take, drop}
-use Rattle.std.proofs.Math.Option.{Option, none, some}
+use Rattle.std.specs.Prelude.{Option, None, Some}
 use Rattle.lists.specs.Bytes.{Bytes, eq_bytes, eq_numbers}
 use Rattle.lists.specs.Lists.{keep, is_empty, is_in, numbers_from}
 use Rattle.store_rules.specs.Frames.{Frame, State, tracked, tentative, Standing, Entry, degraded, GuardKind, reparked, unhydratable, Guard, Decision, rescue, nonce_consumed, still_waiting, Row, Visit}
@@ -39,8 +39,8 @@ contents_hold (n ∷ ns) (b ∷ bs) c = first_is n (take 32 (b ∷ bs)) c.nonces
 
 -- content never matches if none came, or if either is empty
 unfoldable pub content_matches : Bytes → List ℕ → Option Content → Bool
-content_matches guarded preds none = false
-content_matches guarded preds (some c) = not (is_empty guarded) && not (is_empty c.nonces) && contents_hold preds guarded c
+content_matches guarded preds None = false
+content_matches guarded preds (Some c) = not (is_empty guarded) && not (is_empty c.nonces) && contents_hold preds guarded c
 
 -- for Reparked only, the boundary equals expected
 unfoldable pub boundary_holds : GuardKind → ℕ → Bool
@@ -49,8 +49,8 @@ boundary_holds unhydratable expected = true
 
 -- the guard of the frame's hash, if there is one, matches these predecessors, this boundary and this content
 unfoldable pub guard_matches : Option Guard → List ℕ → ℕ → Option Content → Bool
-guard_matches none preds expected content = false
-guard_matches (some g) preds expected content =
+guard_matches None preds expected content = false
+guard_matches (Some g) preds expected content =
     eq_numbers g.predecessors preds && boundary_holds g.kind expected && content_matches g.contents preds content
 
 -- ---- the rules
@@ -58,26 +58,26 @@ guard_matches (some g) preds expected content =
 module _ {A : Type 0} where
   -- the entry is kept, with this standing
   unfoldable pub stay : Standing → List A → Visit A
-  stay s l = record { stays = some s; drops = false; lists = l }
+  stay s l = record { stays = Some s; drops = false; lists = l }
 
   -- the frame leaves, and its hash's guard is removed
   unfoldable pub leave : List A → Visit A
-  leave l = record { stays = none; drops = true; lists = l }
+  leave l = record { stays = None; drops = true; lists = l }
 
 unfoldable pub row : Frame → Decision → List ℕ → List Row
 row f decision nonces = record { frame = f; decision = decision; nonces = nonces } ∷ []
 
 -- the last held head is this one
 unfoldable pub held_at : Option ℕ → ℕ → Bool
-held_at none head = false
-held_at (some n) head = eqb n head
+held_at None head = false
+held_at (Some n) head = eqb n head
 
 -- rule 2
 unfoldable pub poll_degraded : ℕ → List ℕ → Entry → Visit Row
 poll_degraded head known e =
     cond (ltb e.frame.claim head) (stay e.standing (row e.frame nonce_consumed []))
     (cond (held_at e.standing.held head) (stay e.standing [])
-    (stay (record { state = e.standing.state; held = some head }) (row e.frame still_waiting (unknown head known e.frame))))
+    (stay (record { state = e.standing.state; held = Some head }) (row e.frame still_waiting (unknown head known e.frame))))
 
 -- rules 3, 5, 6 and 7; rule 6 is told whether the guard matches
 unfoldable pub poll_full : ℕ → List ℕ → Bool → Entry → Visit Row

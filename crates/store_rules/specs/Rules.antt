@@ -1,6 +1,6 @@
 -- What eviction, reorganisation and finality do to one entry.
 use Rattle.std.specs.Prelude.{ℕ, Bool, true, ◌&&◌, not, cond, [], ◌∷◌, eqb, leb}
-use Rattle.std.proofs.Math.Option.{Option, none, some}
+use Rattle.std.specs.Prelude.{Option, None, Some}
 use Rattle.lists.specs.Bytes.{Bytes, eq_bytes}
 use Rattle.store_rules.specs.Frames.{Frame, State, tracked, tentative, Entry, Guard, Dead, Visit}
 use Rattle.store_rules.specs.Poll.{stay, leave}
@@ -14,15 +14,15 @@ evict_rule guard e = leave (e.frame ∷ [])
 
 -- the block's hash differs, or none is given
 unfoldable pub differs : Option Bytes → Bytes → Bool
-differs none h = true
-differs (some canonical) h = not (eq_bytes canonical h)
+differs None h = true
+differs (Some canonical) h = not (eq_bytes canonical h)
 
 -- a tentative entry of that block whose block hash differs is tracked again; its held head survives, its guard is dropped
 unfoldable pub reorg_in : State → ℕ → Option Bytes → Entry → Visit Frame
 reorg_in tracked block canonical e = stay e.standing []
 reorg_in (tentative c) block canonical e =
     cond (eqb c.block block && differs canonical c.block_hash)
-    (record { stays = some (record { state = tracked; held = e.standing.held }); drops = true; lists = e.frame ∷ [] })
+    (record { stays = Some (record { state = tracked; held = e.standing.held }); drops = true; lists = e.frame ∷ [] })
     (stay e.standing [])
 
 unfoldable pub reorg_rule : ℕ → Option Bytes → Option Guard → Entry → Visit Frame

@@ -1,6 +1,7 @@
 -- The store, its calls with their refusals, and what each call does: `step`.
 use Rattle.std.specs.Prelude.{ℕ, suc, ◌*◌, ◌-◌, ◌%◌, ◌≡◌, Bool, true, false, ◌&&◌, ◌||◌, not, cond, List, [], ◌∷◌, ◌++◌, eqb, leb, ltb, length}
-use Rattle.std.proofs.Math.Option.{Option, none, some, or_else}
+use Rattle.std.specs.Prelude.{Option, None, Some}
+use Rattle.std.specs.Option.{option_or}
 use Rattle.lists.specs.Bytes.{Bytes, eq_bytes, le_bytes}
 use Rattle.lists.specs.Lists.{keep, is_empty, Pairwise}
 use Rattle.store_rules.specs.Frames.{Frame, Consumed, tracked, Standing, Entry, Guard, Row, Dead, Visit}
@@ -26,13 +27,13 @@ Sorted = Pairwise (λ (e f : Entry). NotBefore e.frame.from f)
 -- ---- guards by hash
 
 unfoldable pub guard_of : Bytes → List Guard → Option Guard
-guard_of h [] = none
-guard_of h (g ∷ gs) = cond (eq_bytes g.hash h) (some g) (guard_of h gs)
+guard_of h [] = None
+guard_of h (g ∷ gs) = cond (eq_bytes g.hash h) (Some g) (guard_of h gs)
 
 -- whether there is one
 unfoldable pub is_guarded : Option Guard → Bool
-is_guarded none = false
-is_guarded (some g) = true
+is_guarded None = false
+is_guarded (Some g) = true
 
 unfoldable pub drop_guard : Bytes → List Guard → List Guard
 drop_guard h gs = keep (λ g. not (eq_bytes g.hash h)) gs
@@ -94,8 +95,8 @@ pub data Answer : Type 0 where
 
 -- what a visit leaves of an entry, in front of the entries after it
 unfoldable pub after : Option Standing → Frame → List Entry → List Entry
-after none f es = es
-after (some s) f es = record { frame = f; standing = s } ∷ es
+after None f es = es
+after (Some s) f es = record { frame = f; standing = s } ∷ es
 
 pub record Walked (A : Type 0) : Type 0 where
   pub entries : List Entry
@@ -118,7 +119,7 @@ module _ {A : Type 0} where
 
 -- a tracked entry that was never held
 unfoldable pub fresh : Frame → Entry
-fresh f = record { frame = f; standing = record { state = tracked; held = none } }
+fresh f = record { frame = f; standing = record { state = tracked; held = None } }
 
 -- behind the entries whose address is at most its own
 unfoldable pub insert : Entry → List Entry → List Entry
@@ -142,8 +143,8 @@ effect s (evict_sender a) = walked (walk (only_of a evict_rule) s.entries s.guar
 -- ---- refusals: in the table, each place has those that hang on the inputs first, and then the one about room
 
 unfoldable pub when : Bool → ℕ → Option ℕ
-when true n = some n
-when false n = none
+when true n = Some n
+when false n = None
 
 -- 1: claim exceeds expected by more than 16
 unfoldable pub wide_gap : Frame → Bool
@@ -151,8 +152,8 @@ wide_gap f = ltb 16 (f.claim - f.expected)
 
 -- 4: over 64 pairs, or hash bytes not 32 times nonces
 unfoldable pub bad_content : Option Content → Bool
-bad_content none = false
-bad_content (some c) = ltb 64 (length c.nonces) || not (eqb (length c.hashes) (32 * length c.nonces))
+bad_content None = false
+bad_content (Some c) = ltb 64 (length c.nonces) || not (eqb (length c.hashes) (32 * length c.nonces))
 
 -- 7: content not whole hashes or over 16
 unfoldable pub bad_contents : Bytes → Bool
@@ -164,12 +165,12 @@ no_room_for h gs = leb 64 (length gs) && is_empty (keep (λ g. eq_bytes g.hash h
 
 unfoldable pub input_refusal : Call → Option ℕ
 input_refusal (push f) = when (wide_gap f) 1
-input_refusal (poll a head known content) = or_else (when (ltb 256 (length known)) 3) (when (bad_content content) 4)
-input_refusal (guard g) = or_else (when (ltb 16 (length g.predecessors)) 6) (when (bad_contents g.contents) 7)
-input_refusal (enter_tentative h c) = none
-input_refusal (check_reorg b canonical) = none
-input_refusal (check_finalized n) = none
-input_refusal (evict_sender a) = none
+input_refusal (poll a head known content) = option_or (when (ltb 256 (length known)) 3) (when (bad_content content) 4)
+input_refusal (guard g) = option_or (when (ltb 16 (length g.predecessors)) 6) (when (bad_contents g.contents) 7)
+input_refusal (enter_tentative h c) = None
+input_refusal (check_reorg b canonical) = None
+input_refusal (check_finalized n) = None
+input_refusal (evict_sender a) = None
 
 -- how many an answer lists
 unfoldable pub listed : Answer → ℕ
@@ -196,21 +197,21 @@ unfoldable pub room_refusal : Store → Call → RowForm → ℕ → ℕ → Opt
 room_refusal s (push f) form numbers bytes = when (leb 64 (length s.entries)) 2
 room_refusal s (poll a head known content) form numbers bytes = when (ltb numbers (row_width form * length (entries_of a s.entries))) 5
 room_refusal s (guard g) form numbers bytes = when (no_room_for g.hash s.guards) 8
-room_refusal s (enter_tentative h c) form numbers bytes = none
+room_refusal s (enter_tentative h c) form numbers bytes = None
 room_refusal s (check_reorg b canonical) form numbers bytes = when (ltb numbers (listed (effect s (check_reorg b canonical)).1)) 5
 room_refusal s (check_finalized n) form numbers bytes =
     when (ltb numbers (3 * listed (effect s (check_finalized n)).1) || ltb bytes (64 * listed (effect s (check_finalized n)).1)) 5
 room_refusal s (evict_sender a) form numbers bytes = when (ltb numbers (listed (effect s (evict_sender a)).1)) 5
 
 unfoldable pub refusal : Store → Request → Option ℕ
-refusal s q = or_else (input_refusal q.call) (room_refusal s q.call q.form q.numbers q.bytes)
+refusal s q = option_or (input_refusal q.call) (room_refusal s q.call q.form q.numbers q.bytes)
 
 -- ---- a call, and lists of calls
 
 -- a refused call answers its number and changes nothing
 unfoldable pub unless : Option ℕ → Store → Store × Answer → Store × Answer
-unless (some n) s done = (s, refused n)
-unless none s done = done
+unless (Some n) s done = (s, refused n)
+unless None s done = done
 
 unfoldable pub step : Store → Request → Store × Answer
 step s q = unless (refusal s q) s (effect s q.call)

@@ -1,6 +1,7 @@
 -- Request 2027-05: a sweep, which polls many senders in one call. It is its list of polls, run by `step` one after another.
 use Rattle.std.specs.Prelude.{ℕ, ◌*◌, ◌-◌, Bool, ◌||◌, not, List, [], ◌∷◌, ◌++◌, map, eqb, ltb, length, take, drop}
-use Rattle.std.proofs.Math.Option.{Option, none, or_else}
+use Rattle.std.specs.Prelude.{Option, None}
+use Rattle.std.specs.Option.{option_or}
 use Rattle.lists.specs.Bytes.{Bytes}
 use Rattle.lists.specs.Lists.{keep, is_empty, sum, chunks}
 use Rattle.store_rules.specs.Frames.{Entry, Row}
@@ -24,7 +25,7 @@ pub record Sweep : Type 0 where
 unfoldable pub polls_from : Bytes → List ℕ → List ℕ → List ℕ → List Call
 polls_from senders [] counts nonces = []
 polls_from senders (h ∷ hs) [] nonces = []
-polls_from senders (h ∷ hs) (c ∷ cs) nonces = poll (take 20 senders) h (take c nonces) none ∷ polls_from (drop 20 senders) hs cs (drop c nonces)
+polls_from senders (h ∷ hs) (c ∷ cs) nonces = poll (take 20 senders) h (take c nonces) None ∷ polls_from (drop 20 senders) hs cs (drop c nonces)
 
 abbrev pub polls_of : Sweep → List Call
 polls_of w = polls_from w.senders w.heads w.counts w.nonces
@@ -65,7 +66,7 @@ big_count counts = not (is_empty (keep (λ n. ltb 256 n) counts))
 
 unfoldable pub sweep_input_refusal : Sweep → Option ℕ
 sweep_input_refusal w =
-    or_else (when (bad_lists w.senders w.heads w.counts) 17) (or_else (when (bad_sum w.counts w.nonces) 18) (when (big_count w.counts) 3))
+    option_or (when (bad_lists w.senders w.heads w.counts) 17) (option_or (when (bad_sum w.counts w.nonces) 18) (when (big_count w.counts) 3))
 
 -- the entries of the senders, summed over so many of them; a sender listed twice counts twice
 unfoldable pub listed_entries : Bytes → ℕ → List Entry → ℕ
@@ -76,7 +77,7 @@ unfoldable pub sweep_room_refusal : Store → Sweep → Option ℕ
 sweep_room_refusal s w = when (ltb w.numbers (19 * listed_entries w.senders (length w.heads) s.entries)) 5
 
 unfoldable pub sweep_refusal : Store → Sweep → Option ℕ
-sweep_refusal s w = or_else (sweep_input_refusal w) (sweep_room_refusal s w)
+sweep_refusal s w = option_or (sweep_input_refusal w) (sweep_room_refusal s w)
 
 -- ---- the call
 

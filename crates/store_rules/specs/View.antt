@@ -1,6 +1,7 @@
 -- The code's values as the definitions see them: what lies past a count does not show.
-use Rattle.std.specs.Prelude.{ℕ, suc, ◌*◌, Bool, true, false, cond, List, [], ◌∷◌, map, eqb, take, drop, get_or}
-use Rattle.std.proofs.Math.Option.{Option, none, some}
+use Rattle.std.specs.Prelude.{ℕ, suc, ◌*◌, ◌≡◌, Bool, cond, List, [], ◌∷◌, map, eqb, length, take, drop, get_or}
+use Rattle.std.specs.Prelude.{Option, Some}
+use Rattle.std.specs.Option.{option_map}
 use Rattle.lists.specs.Bytes.{Bytes}
 use Rattle.lists.specs.Lists.{chunks}
 use Rattle.store_rules.specs.Frames.{Frame, mined, taken, taken_by, Consumed, State, tracked, tentative, Entry, GuardKind, reparked, unhydratable, Guard}
@@ -13,8 +14,8 @@ use Rattle.store_rules.specs.declared.NonceConsumed.{NonceConsumed}
 use Rattle.store_rules.specs.declared.NonceConsumed.TheVariants.{MinedAt, SlotTakenAt, SlotTakenBy}
 use Rattle.store_rules.specs.declared.FrameState.{FrameState}
 use Rattle.store_rules.specs.declared.FrameState.TheVariants.{Tracked, Tentative}
-use Rattle.store_rules.specs.declared.HeldHead.{HeldHead}
-use Rattle.store_rules.specs.declared.HeldHead.TheVariants.{Never, At}
+use Rattle.store_rules.specs.declared.matching.Content as coded-content
+use Rattle.store_rules.specs.declared.matching.GuardBody as coded-body
 use Rattle.store_rules.specs.declared.RescueKind.{RescueKind}
 use Rattle.store_rules.specs.declared.RescueKind.TheVariants.{Reparked, Unhydratable}
 
@@ -26,10 +27,6 @@ consumed_of (SlotTakenBy b) hash taker = record { kind = taken_by taker; block =
 abbrev pub state_seen : FrameState → Bytes → Bytes → State
 state_seen Tracked hash taker = tracked
 state_seen (Tentative c) hash taker = tentative (consumed_of c hash taker)
-
-abbrev pub held_of : HeldHead → Option ℕ
-held_of Never = none
-held_of (At n) = some n
 
 abbrev pub frame_of : ParkedFrame → Frame
 frame_of f =
@@ -47,7 +44,7 @@ abbrev pub entry_of : coded.Entry → Entry
 entry_of e =
     record {
       frame = frame_of e.frame;
-      standing = record { state = state_seen e.state e.block_hash e.taker; held = held_of e.held };
+      standing = record { state = state_seen e.state e.block_hash e.taker; held = e.held };
     }
 
 abbrev pub kind_of : RescueKind → GuardKind
@@ -60,7 +57,7 @@ abbrev pub with_state : coded.Entry → FrameState → coded.Entry
 with_state e state = record { frame = e.frame; state = state; held = e.held; block_hash = e.block_hash; taker = e.taker }
 
 abbrev pub with_held : coded.Entry → ℕ → coded.Entry
-with_held e head = record { frame = e.frame; state = e.state; held = At head; block_hash = e.block_hash; taker = e.taker }
+with_held e head = record { frame = e.frame; state = e.state; held = Some head; block_hash = e.block_hash; taker = e.taker }
 
 -- ---- guards, in two parts: a label of 33 bytes, and a body of 20 numbers and 512 bytes
 
@@ -120,15 +117,19 @@ held_view bodies h = record { entries = entries_seen h; guards = guards_seen bod
 
 -- ---- what is given to calls
 
--- content comes with a poll, or does not
-abbrev pub content_of : Bool → List ℕ → Bytes → Option Content
-content_of true nonces hashes = some (record { nonces = nonces; hashes = hashes })
-content_of false nonces hashes = none
+-- a hash for each nonce
+abbrev pub IsPaired : coded-content.Content → Type 0
+IsPaired c = length c.hashes.now ≡ 32 * length c.nonces.now
 
--- a block's hash, if one is given
-abbrev pub hash_of : Bool → Bytes → Option Bytes
-hash_of true h = some h
-hash_of false h = none
+abbrev pub content_seen : coded-content.Content → Content
+content_seen c = record { nonces = c.nonces.now; hashes = c.hashes.now }
+
+-- content comes with a poll, or does not
+abbrev pub content_of : Option coded-content.Content → Option Content
+content_of o = option_map content_seen o
+
+abbrev pub body_seen : coded-body.GuardBody → GuardBody
+body_seen b = record { kind = kind_of b.kind; predecessors = b.predecessors.now; contents = b.contents.now }
 
 -- the block that carries a consumption
 abbrev pub block_of : NonceConsumed → ℕ

@@ -1,70 +1,59 @@
 // Whether a guard matches a frame, by the content that came with a poll.
-ghost use Rattle.std.specs.Prelude.{◌≡◌, ◌*◌, length};
-ghost use Rattle.std.proofs.Math.Option.{some};
+ghost use Rattle.std.specs.Prelude.{◌≡◌, Some};
 ghost use Rattle.lists.specs.Bytes.{Bytes};
 ghost use Rattle.store_rules.specs.Poll.{first_is, contents_hold, content_matches, boundary_holds, guard_matches};
-ghost use Rattle.store_rules.specs.View.{kind_of};
+ghost use Rattle.store_rules.specs.View.{kind_of, IsPaired, content_seen, body_seen, guard_seen};
 
 use super::RescueKind;
 
+// What is given to a poll: the nonces of the current content, and the hash of each, 32 bytes, one after another.
+#[derive(Clone, Copy)]
+pub struct Content<'a> {
+    pub nonces: &'a [u64],
+    pub hashes: &'a [u8],
+}
+
+// What a guard compares: its kind, its predecessors, and its contents, hashes of 32 bytes, one after another.
+#[derive(Clone, Copy)]
+pub struct GuardBody<'a> {
+    pub kind: RescueKind,
+    pub predecessors: &'a [u64],
+    pub contents: &'a [u8],
+}
+
 // Whether the first current pair with this nonce exists and has this hash.
-fn first_is(n: u64, hash: &[u8], nonces: &[u64], hashes: &[u8]) -> bool
-    requires { length hashes.now ≡ 32 * length nonces.now }
-    ensures { result ≡ first_is n hash.now nonces.now hashes.now }
+fn first_is(n: u64, hash: &[u8], content: Content) -> bool
+    requires { IsPaired content }
+    ensures { result ≡ first_is n hash.now content.entry.nonces.now content.entry.hashes.now }
 {
-    let mut i = 0;
-    let mut at = 0;
-    while i < nonces.len() {
-        let end = at + 32;
-        if nonces[i] == n {
-            return lists::same_bytes(&hashes[at..end], hash);
+    for (m, own) in content.nonces.iter().zip(content.hashes.chunks_exact(32)) {
+        if *m == n {
+            // `==` on slices was slower where they are alike.
+            return lists::same_bytes(own, hash);
         }
-        i += 1;
-        at = end;
     }
     false
 }
 
-// Whether the predecessors and the guard's `count` hashes, paired up to the shorter list, are each found so.
-fn contents_hold(preds: &[u64], guarded: &[u8], count: usize, nonces: &[u64], hashes: &[u8]) -> bool
-    requires { (length guarded.now ≡ 32 * count) × (length hashes.now ≡ 32 * length nonces.now) }
-    ensures { result ≡ contents_hold preds.now guarded.now (record { nonces = nonces.entry.now; hashes = hashes.now }) }
+// Whether the predecessors and the guard's hashes, paired up to the shorter list, are each found so.
+fn contents_hold(preds: &[u64], guarded: &[u8], content: Content) -> bool
+    requires { IsPaired content }
+    ensures { result ≡ contents_hold preds.now guarded.now (content_seen content.entry) }
 {
-    let mut i = 0;
-    let mut at = 0;
-    while i < preds.len() {
-        if count <= i {
-            return true;
-        }
-        let n = preds[i];
-        let end = at + 32;
-        if !first_is(n, &guarded[at..end], nonces, hashes) {
+    for (n, hash) in preds.iter().zip(guarded.chunks(32)) {
+        if !first_is(*n, hash, content) {
             return false;
         }
-        i += 1;
-        at = end;
     }
     true
 }
 
 // Whether the guard's content matches: never if either is empty.
-fn content_matches(
-    preds: &[u64],
-    guarded: &[u8],
-    count: usize,
-    nonces: &[u64],
-    hashes: &[u8],
-) -> bool
-    requires { (length guarded.now ≡ 32 * count) × (length hashes.now ≡ 32 * length nonces.now) }
-    ensures { result ≡ content_matches guarded.now preds.now (some (record { nonces = nonces.entry.now; hashes = hashes.now })) }
+fn content_matches(preds: &[u64], guarded: &[u8], content: Content) -> bool
+    requires { IsPaired content }
+    ensures { result ≡ content_matches guarded.now preds.now (Some (content_seen content.entry)) }
 {
-    if count == 0 {
-        return false;
-    }
-    if nonces.len() == 0 {
-        return false;
-    }
-    contents_hold(preds, guarded, count, nonces, hashes)
+    !guarded.is_empty() && !content.nonces.is_empty() && contents_hold(preds, guarded, content)
 }
 
 // Whether the boundary of a re-park is the frame's.
@@ -77,28 +66,12 @@ fn boundary_holds(kind: RescueKind, expected: u64) -> bool
     }
 }
 
-// Whether a guard of this kind, with these predecessors and `count` hashes of its own, matches a frame with these predecessors and
-// this boundary, by the content of a poll.
-pub fn guard_matches(
-    kind: RescueKind,
-    own: &[u64],
-    contents: &[u8],
-    count: usize,
-    preds: &[u64],
-    expected: u64,
-    nonces: &[u64],
-    hashes: &[u8],
-) -> bool
-    requires { (length contents.now ≡ 32 * count) × (length hashes.now ≡ 32 * length nonces.now) }
-    ensures { (h : Bytes) → result ≡ guard_matches
-        (some (record { hash = h; kind = kind_of kind; predecessors = own.now; contents = contents.now }))
-        preds.now expected (some (record { nonces = nonces.entry.now; hashes = hashes.now })) }
+// Whether a guard with this body matches a frame with these predecessors and this boundary, by the content of a poll.
+pub fn guard_matches(guard: GuardBody, preds: &[u64], expected: u64, content: Content) -> bool
+    requires { IsPaired content }
+    ensures { (hash : Bytes) → result ≡ guard_matches (Some (guard_seen hash (body_seen guard.entry))) preds.now expected (Some (content_seen content.entry)) }
 {
-    if !lists::same_numbers(own, preds) {
-        return false;
-    }
-    if !boundary_holds(kind, expected) {
-        return false;
-    }
-    content_matches(preds, contents, count, nonces, hashes)
+    guard.predecessors == preds
+        && boundary_holds(guard.kind, expected)
+        && content_matches(preds, guard.contents, content)
 }

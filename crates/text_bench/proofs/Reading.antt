@@ -1,17 +1,15 @@
--- What `parse_hash` gives, as an answer and the bytes that it leaves.
-use mathlib.Core.Path.{◌≡◌, refl}
+-- Whether a text parses, by what `parse_hash` gives.
+use mathlib.Core.Path.{◌≡◌, refl, ap, ◌∙◌}
 use mathlib.Core.Bool.{Bool, true, false, cond}
-use mathlib.Core.Option.{none, some, get_or, some-injective, none-ne-some, some-ne-none}
+use Rattle.std.specs.Option.{is_some}
+use Rattle.std.specs.Prelude.{Option, None, Some}
 use Rattle.lists.specs.Bytes.{Bytes}
 use Rattle.wire.specs.HashText.{unprefixed, from_hex, parses, parse_hash}
 
-pub read_as : (is : Bool) (hash text old : Bytes) → cond is (some hash) none ≡ parse_hash text
-    → (is ≡ parses text) × (cond is hash old ≡ get_or (parse_hash text) old)
+pub is-read : (o : Option Bytes) (text : Bytes) → o ≡ parse_hash text → is_some o ≡ parses text
 unfolding parse_hash
-read_as is hash text old e = go is (parses text) (from_hex (unprefixed text)) e
+is-read o text e = ap is_some e ∙ go (parses text)
   where
-    go : (a b : Bool) (h : Bytes) → cond a (some hash) none ≡ cond b (some h) none → (a ≡ b) × (cond a hash old ≡ get_or (cond b (some h) none) old)
-    go true true h p = (refl, some-injective hash h p)
-    go true false h p = absurd (some-ne-none hash p)
-    go false true h p = absurd (none-ne-some h p)
-    go false false h p = (refl, refl)
+    go : (b : Bool) → is_some (cond b (Some (from_hex (unprefixed text))) None) ≡ b
+    go true = refl
+    go false = refl

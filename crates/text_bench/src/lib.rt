@@ -2,7 +2,7 @@
 #![tactic(auto)]
 
 ghost use Rattle.std.specs.Prelude.{◌≡◌};
-ghost use Rattle.std.proofs.Math.Option.{get_or};
+ghost use Rattle.std.specs.Option.{unwrap_or};
 ghost use Rattle.wire.specs.HashText.{canonical, parses, parse_hash};
 
 // Writes the canonical text of a hash.
@@ -16,13 +16,11 @@ pub extern "C" fn bench_canonical_text(hash: &[u8; 32], text: &mut [u8; 66])
 // Whether a text of 66 bytes parses. If so, its hash is written, and otherwise nothing.
 #[unsafe(no_mangle)]
 pub extern "C" fn bench_parse_hash(text: &[u8; 66], hash: &mut [u8; 32]) -> bool
-    ensures { (result ≡ parses text.now) × (hash.new ≡ get_or (parse_hash text.now) hash.old) }
+    ensures { (result ≡ parses text.now) × (hash.new ≡ unwrap_or (parse_hash text.now) hash.old) }
 {
-    let parsed = wire::parse_hash(text);
-    if !parsed.parses {
+    let Some(parsed) = wire::parse_hash(text) else {
         return false;
-    }
-    let bytes = parsed.hash;
-    *hash = bytes;
+    };
+    *hash = parsed;
     true
 }

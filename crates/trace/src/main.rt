@@ -2,18 +2,18 @@
 // trace is whole, its totals follow.
 #![tactic(auto)]
 
-use console::Input;
+use console::Output;
 
 // Refuses arguments, reads, puts the lines, and writes them.
 fn main(rt: HostRuntime) {
-    if console::is_misused(rt, console::argument_count(rt), b"usage: trace < TRACE\n") {
+    if console::is_misused(rt, console::argument_count(&rt), b"usage: trace < TRACE\n") {
         return;
     }
     let mut trace = [0u8; trace_output::READ];
-    let Input::Read(n) = console::read_input(rt, &mut trace) else {
+    let Some(n) = console::read_input(rt, &mut trace) else {
         return;
     };
-    let mut out = [0u8; console::SIZE];
-    trace_output::put_trace(rt, &mut out, &trace, n);
-    console::flush(rt, &mut out);
+    let mut out = Output::new(rt);
+    trace_output::put_trace(&mut out, &trace, n);
+    out.flush();
 }

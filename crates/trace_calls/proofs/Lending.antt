@@ -4,7 +4,7 @@ use native.Mathlib.Omega.{arith}
 use mathlib.Core.Path.{◌≡◌, refl, ap}
 use mathlib.Core.Bool.{Bool, true, false}
 use mathlib.Core.List.{List, [], ◌∷◌}
-use mathlib.Core.Option.{Option, none, some, or_else}
+use Rattle.std.specs.Prelude.{Option, Some}
 use lib.Dec.{ltb}
 use lib.ListN.{length, take, length-take}
 use lib.Seq.{take_all}
@@ -13,11 +13,9 @@ use Rattle.lists.specs.Bytes.{Bytes}
 use Rattle.lists.specs.Lists.{written}
 use Rattle.store_rules.specs.Frames.{GuardKind}
 use Rattle.store_rules.specs.Poll.{Content}
-use Rattle.store_rules.specs.Store.{Store, Call, push, poll, guard, enter_tentative, check_reorg, check_finalized, evict_sender, RowForm, Request, Answer, step, refusal, input_refusal, room_refusal, bad_content, when, unless, effect, walked}
+use Rattle.store_rules.specs.Store.{Store, Call, push, poll, guard, enter_tentative, check_reorg, check_finalized, evict_sender, RowForm, Answer, step, refusal, input_refusal, room_refusal, bad_content, when, unless}
 use Rattle.store_rules.specs.Answers.{Said, numbers_of, bytes_of}
-use Rattle.store_rules.specs.Searching.{whose_shown}
 use Rattle.answers.specs.Promises.{Gives, asked, Steps}
-use Rattle.trace_calls.specs.Promises.{whose_told}
 
 -- ---- slices that a call takes none of
 
@@ -85,31 +83,6 @@ module _ {S : Type 0} (view : S → Store) (form : RowForm) (q : S) (c : Call) (
       rw (← same-slice (view q) form c numbers bytes h)
       (more_bytes view form q _ a q' numbers numbers bytes (more_numbers view form q _ a q' numbers [] [] g))
 
--- ---- whose the frame is: only an entering tells
-
-abbrev pub TellsNobody : Call → Type 0
-TellsNobody (push f) = Unit {0}
-TellsNobody (poll a head known content) = Unit {0}
-TellsNobody (guard g) = Unit {0}
-TellsNobody (enter_tentative h c) = ⊥
-TellsNobody (check_reorg b canonical) = Unit {0}
-TellsNobody (check_finalized n) = Unit {0}
-TellsNobody (evict_sender a) = Unit {0}
-
-pub tells-nobody : (s : Store) (q : Request) → TellsNobody q.call → whose_shown none ≡ whose_told (step s q).1
-unfolding step unless effect walked
-tells-nobody s q h = go (refusal s q) q.call h
-  where
-    go : (o : Option ℕ) (c : Call) → TellsNobody c → whose_shown none ≡ whose_told (unless o s (effect s c)).1
-    go (some n) c h = refl
-    go none (push f) h = refl
-    go none (poll a head known content) h = refl
-    go none (guard g) h = refl
-    go none (enter_tentative x c) h = absurd h
-    go none (check_reorg b canonical) h = refl
-    go none (check_finalized n) h = refl
-    go none (evict_sender a) h = refl
-
 -- ---- a list that is too long: its number decides
 
 module _ (most room : ℕ) (l : List ℕ) (h : most < room) where
@@ -122,7 +95,7 @@ module _ (most room : ℕ) (l : List ℕ) (h : most < room) where
 module _ (s : Store) (form : RowForm) (numbers bytes : List ℕ) where
   pub known_kept : (a : Bytes) (head : ℕ) (known : List ℕ) (content : Option Content) →
       step s (asked form (poll a head (take 257 known) content) numbers bytes) ≡ step s (asked form (poll a head known content) numbers bytes)
-  unfolding step refusal input_refusal when unless or_else
+  unfolding step refusal input_refusal when unless
   known_kept a head known content = go (ltb 256 (length known)) refl
     where
       go : (b : Bool) → ltb 256 (length known) ≡ b → step s (asked form (poll a head (take 257 known) content) numbers bytes) ≡ step s (asked form (poll a head known content) numbers bytes)
@@ -130,22 +103,22 @@ module _ (s : Store) (form : RowForm) (numbers bytes : List ℕ) where
       go false e = ap (λ (l : List ℕ). step s (asked form (poll a head l content) numbers bytes)) (not-over 256 257 known (omega arith) e)
 
   pub nonces-kept : (a : Bytes) (head : ℕ) (known nonces : List ℕ) (hashes : Bytes) →
-      step s (asked form (poll a head known (some (record { nonces = take 65 nonces; hashes = hashes }))) numbers bytes)
-      ≡ step s (asked form (poll a head known (some (record { nonces = nonces; hashes = hashes }))) numbers bytes)
-  unfolding step refusal input_refusal bad_content when unless or_else
+      step s (asked form (poll a head known (Some (record { nonces = take 65 nonces; hashes = hashes }))) numbers bytes)
+      ≡ step s (asked form (poll a head known (Some (record { nonces = nonces; hashes = hashes }))) numbers bytes)
+  unfolding step refusal input_refusal bad_content when unless
   nonces-kept a head known nonces hashes = go (ltb 64 (length nonces)) refl (ltb 256 (length known)) refl
     where
       go : (b : Bool) → ltb 64 (length nonces) ≡ b → (d : Bool) → ltb 256 (length known) ≡ d →
-          step s (asked form (poll a head known (some (record { nonces = take 65 nonces; hashes = hashes }))) numbers bytes)
-          ≡ step s (asked form (poll a head known (some (record { nonces = nonces; hashes = hashes }))) numbers bytes)
+          step s (asked form (poll a head known (Some (record { nonces = take 65 nonces; hashes = hashes }))) numbers bytes)
+          ≡ step s (asked form (poll a head known (Some (record { nonces = nonces; hashes = hashes }))) numbers bytes)
       go true e true f = rw f
       go true e false f = rw (f, over 64 65 nonces (omega arith) e, e)
-      go false e d f = ap (λ (l : List ℕ). step s (asked form (poll a head known (some (record { nonces = l; hashes = hashes }))) numbers bytes)) (not-over 64 65 nonces (omega arith) e)
+      go false e d f = ap (λ (l : List ℕ). step s (asked form (poll a head known (Some (record { nonces = l; hashes = hashes }))) numbers bytes)) (not-over 64 65 nonces (omega arith) e)
 
   pub predecessors-kept : (hash : Bytes) (kind : GuardKind) (preds : List ℕ) (contents : Bytes) →
       step s (asked form (guard (record { hash = hash; kind = kind; predecessors = take 17 preds; contents = contents })) numbers bytes)
       ≡ step s (asked form (guard (record { hash = hash; kind = kind; predecessors = preds; contents = contents })) numbers bytes)
-  unfolding step refusal input_refusal when unless or_else
+  unfolding step refusal input_refusal when unless
   predecessors-kept hash kind preds contents = go (ltb 16 (length preds)) refl
     where
       go : (b : Bool) → ltb 16 (length preds) ≡ b →

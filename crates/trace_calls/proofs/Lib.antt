@@ -1,4 +1,4 @@
-pub mod Places
 pub mod Lending
-pub mod Readers
 pub mod Making
+pub mod Places
+pub mod Readers

@@ -2,16 +2,18 @@
 use Prim.Native.Nat.{ℕ, ◌+◌, ◌*◌, ◌-◌, ◌≤◌, ◌<◌}
 use native.Mathlib.Omega.{arith}
 use mathlib.Core.Path.{◌≡◌, refl, ap, ◌∙◌}
-use mathlib.Core.Bool.{Bool, true, false}
+use mathlib.Core.Bool.{Bool, true, false, cond}
+use Rattle.std.specs.Prelude.{Some, None}
 use lib.Dec.{leb}
 use lib.ListN.{length, take, drop, get_or, length-drop}
 use lib.Seq.{drop-drop, drop-cons}
 use borrow.Author.Tests.{le-leb, lt-leb, leb-true, leb-false}
 use Rattle.lists.specs.Bytes.{Bytes}
+use Rattle.lists.proofs.Options.{some-injective, none-ne-some, some-ne-none}
 use Rattle.wire.specs.Numbers.{num}
 use Rattle.trace_format.specs.Reading.{Read, cut_short, part, byte, list}
 use Rattle.trace_format.specs.Standing.{NotRead}
-use Rattle.trace_parts.specs.Parts.{count_at, list_end, bytes_at, end_in}
+use Rattle.trace_parts.specs.Parts.{count_at, list_end, bytes_at, place_in}
 
 -- ---- a part
 
@@ -62,32 +64,19 @@ module _ {A : Type 0} (width at : ℕ) (bs : Bytes) (next : ℕ → Bytes → By
   unfolding list
   list-not f = part-not 2 at bs _ (λ g. part-not (width * count_at at bs) (at + 2) bs _ (λ h. f (omega arith)))
 
--- ---- an end that was found or not
+-- ---- an end that was found, or none
 
-module _ (bs : Bytes) (end found : ℕ) (is : found ≡ end_in bs end) (front : 0 < end) where
-  pub not_found : found ≡ 0 → length bs < end
-  not_found z = go (leb end (length bs)) refl
+module _ (bs : Bytes) (end : ℕ) where
+  pub end-found : (found : ℕ) → Some found ≡ place_in bs end → (found ≡ end) × (end ≤ length bs)
+  end-found found e = go (leb end (length bs)) refl e
     where
-      go : (b : Bool) → leb end (length bs) ≡ b → length bs < end
-      go true e = omega (arith, rw e at is)
-      go false e = leb-false end (length bs) e
+      go : (b : Bool) → leb end (length bs) ≡ b → Some found ≡ cond b (Some end) None → (found ≡ end) × (end ≤ length bs)
+      go true t h = (some-injective _ _ h, leb-true end (length bs) t)
+      go false t h = absurd (some-ne-none _ h)
 
-  pub end-found : (found ≡ 0 → ⊥) → (found ≡ end) × (end ≤ length bs)
-  end-found f = go (leb end (length bs)) refl
+  pub not_found : None ≡ place_in bs end → length bs < end
+  not_found e = go (leb end (length bs)) refl e
     where
-      go : (b : Bool) → leb end (length bs) ≡ b → (found ≡ end) × (end ≤ length bs)
-      go true e = (rw e at is, leb-true end (length bs) e)
-      go false e = absurd (f (rw e at is))
-
--- a list of numbers at a place, and one of hashes behind it
-pub record TwoLists (at : ℕ) (bs : Bytes) (hashes_at end : ℕ) : Type 0 where
-  pub first : hashes_at ≡ list_end 8 at bs
-  pub second : end ≡ list_end 1 hashes_at bs
-  pub within : end ≤ length bs
-
-pub two-lists : (at : ℕ) (bs : Bytes) (hashes_at end : ℕ) → hashes_at ≡ end_in bs (list_end 8 at bs) → (hashes_at ≡ 0 → ⊥) → end ≡ end_in bs (list_end 1 hashes_at bs) → (end ≡ 0 → ⊥) →
-    TwoLists at bs hashes_at end
-two-lists at bs hashes_at end e f g h =
-    let p = end-found bs (list_end 8 at bs) hashes_at e (omega arith) f in
-    let q = end-found bs (list_end 1 hashes_at bs) end g (omega arith) h in
-    record { first = p.0; second = q.0; within = omega arith }
+      go : (b : Bool) → leb end (length bs) ≡ b → None ≡ cond b (Some end) None → length bs < end
+      go true t h = absurd (none-ne-some _ h)
+      go false t h = leb-false end (length bs) t

@@ -1,16 +1,19 @@
 -- What each of the seven calls is read as, by the places of its inputs, and when it is not read.
 use Prim.Native.Nat.{ℕ, zero, suc, ◌+◌, ◌≤◌, ◌<◌}
 use native.Mathlib.Omega.{arith}
-use mathlib.Core.Path.{◌≡◌, refl, ◌∙◌}
-use mathlib.Core.List.{List}
-use mathlib.Core.Option.{none, some}
+use mathlib.Core.Path.{◌≡◌, refl, ap, ◌∙◌}
+use mathlib.Core.Bool.{Bool, true, false, ◌&&◌}
+use mathlib.Core.List.{List, [], ◌∷◌}
+use lib.Dec.{eqb, ltb}
+use borrow.Author.Tests.{eqb-true, ltb-true, ltb-false}
+use Rattle.std.specs.Prelude.{None, Some}
 use lib.ListN.{length, take, drop, get_or}
-use Rattle.lists.specs.Bytes.{Bytes}
+use Rattle.lists.specs.Bytes.{Bytes, eq_bytes}
 use Rattle.wire.specs.Numbers.{num}
 use Rattle.store_rules.specs.Frames.{mined, taken, taken_by, GuardKind, reparked, unhydratable, Guard}
 use Rattle.store_rules.specs.Poll.{Content}
 use Rattle.store_rules.specs.Store.{push, poll, guard, enter_tentative, check_reorg, check_finalized, evict_sender}
-use Rattle.trace_format.specs.Reading.{Read, got, ReadCall, part, number, numbers, hashes, by_flag, optional, content, read_push, read_poll, guard_inputs, guard_by, read_guard, block_inputs, enter_by, read_enter, read_reorg, read_final, read_evict, by_mark, read_call}
+use Rattle.trace_format.specs.Reading.{Read, got, ReadCall, part, number, numbers, hashes, by_flag, optional, content, read_push, read_poll, guard_inputs, guard_by, read_guard, block_inputs, enter_by, read_enter, read_reorg, read_final, read_evict, mark, by_mark, read_call}
 use Rattle.trace_format.specs.Standing.{NotRead}
 use Rattle.trace_parts.specs.Parts.{list_end, bytes_at, numbers_at}
 use Rattle.trace_calls.proofs.Places.{part_in, part-not, part-still, byte-in, byte-not, list-in, list-not}
@@ -134,26 +137,26 @@ module _ (bs : Bytes) where
   -- ---- a reorganisation
 
   pub reorg-read : 11 ≤ length bs → read_reorg (drop 2 bs)
-      ≡ by_flag (get_or bs 10 0) (got (check_reorg (number_at 2 bs) none) (drop 11 bs)) (part 32 (drop 11 bs) (λ hash. got (check_reorg (number_at 2 bs) (some hash))))
+      ≡ by_flag (get_or bs 10 0) (got (check_reorg (number_at 2 bs) None) (drop 11 bs)) (part 32 (drop 11 bs) (λ hash. got (check_reorg (number_at 2 bs) (Some hash))))
   unfolding read_reorg optional number
   reorg-read h = part_in 8 2 bs _ (omega arith) ∙ byte-in 10 bs _ (omega arith)
 
-  pub reorg-hash : 43 ≤ length bs → part 32 (drop 11 bs) (λ hash. got (check_reorg (number_at 2 bs) (some hash))) ≡ got (check_reorg (number_at 2 bs) (some (take 32 (drop 11 bs)))) (drop 43 bs)
+  pub reorg-hash : 43 ≤ length bs → part 32 (drop 11 bs) (λ hash. got (check_reorg (number_at 2 bs) (Some hash))) ≡ got (check_reorg (number_at 2 bs) (Some (take 32 (drop 11 bs)))) (drop 43 bs)
   reorg-hash h = part_in 32 11 bs _ (omega arith)
 
   pub reorg-not : length bs < 11 → NotRead (read_reorg (drop 2 bs))
   unfolding read_reorg optional number
   reorg-not h = part-still 8 2 bs _ (byte-not 10 bs _ (λ g. absurd (omega arith)))
 
-  pub reorg-cut : length bs < 43 → NotRead (part 32 (drop 11 bs) (λ hash. got (check_reorg (number_at 2 bs) (some hash))))
+  pub reorg-cut : length bs < 43 → NotRead (part 32 (drop 11 bs) (λ hash. got (check_reorg (number_at 2 bs) (Some hash))))
   reorg-cut h = part-not 32 11 bs _ (λ g. absurd (omega arith))
 
   -- ---- a poll
 
   module _ (at : ℕ) (is : at ≡ list_end 8 30 bs) where
     pub poll-read : at < length bs → read_poll (drop 2 bs)
-        ≡ by_flag (get_or bs at 0) (got (poll (take 20 (drop 2 bs)) (number_at 22 bs) (numbers_at 30 bs) none) (drop (at + 1) bs))
-        (content (drop (at + 1) bs) (λ c. got (poll (take 20 (drop 2 bs)) (number_at 22 bs) (numbers_at 30 bs) (some c))))
+        ≡ by_flag (get_or bs at 0) (got (poll (take 20 (drop 2 bs)) (number_at 22 bs) (numbers_at 30 bs) None) (drop (at + 1) bs))
+        (content (drop (at + 1) bs) (λ c. got (poll (take 20 (drop 2 bs)) (number_at 22 bs) (numbers_at 30 bs) (Some c))))
     unfolding read_poll optional number
     poll-read h =
         rw is
@@ -224,12 +227,46 @@ module _ (bs : Bytes) where
   guard-kind-not (suc (suc zero)) rest a b = absurd (b refl)
   guard-kind-not (suc (suc (suc n))) rest a b = tt
 
-  -- ---- the mark
+-- ---- the mark
 
-  pub mark-read : 2 ≤ length bs → read_call bs ≡ by_mark (take 2 bs) (drop 2 bs)
+two : (bs : Bytes) (a b : ℕ) → 2 ≤ length bs → get_or bs 0 0 ≡ a → get_or bs 1 0 ≡ b → take 2 bs ≡ a ∷ b ∷ []
+two [] a b h e f = absurd (omega arith)
+two (x ∷ []) a b h e f = absurd (omega arith)
+two (x ∷ y ∷ xs) a b h e f = rw (e, f)
+
+miss : (a b letter : ℕ) → (a ≡ 67 → b ≡ letter → ⊥) → eq_bytes (a ∷ b ∷ []) (mark letter) ≡ false
+unfolding eq_bytes
+miss a b letter h = go (eqb a 67) refl (eqb b letter) refl
+  where
+    go : (s : Bool) → eqb a 67 ≡ s → (t : Bool) → eqb b letter ≡ t → (s && (t && true)) ≡ false
+    go false p t q = refl
+    go true p false q = refl
+    go true p true q = absurd (h (eqb-true a 67 p) (eqb-true b letter q))
+
+module _ (bs : Bytes) where
+  mark-read : 2 ≤ length bs → read_call bs ≡ by_mark (take 2 bs) (drop 2 bs)
   unfolding read_call
   mark-read h = part_in 2 0 bs by_mark (omega arith)
 
-  pub mark-not : length bs < 2 → NotRead (read_call bs)
+  pub call-at : (letter : ℕ) → 2 ≤ length bs → get_or bs 0 0 ≡ 67 → get_or bs 1 0 ≡ letter → read_call bs ≡ by_mark (mark letter) (drop 2 bs)
+  call-at letter h e f = mark-read h ∙ ap (λ (m : Bytes). by_mark m (drop 2 bs)) (two bs 67 letter h e f)
+
+  cut-mark : length bs < 2 → NotRead (read_call bs)
   unfolding read_call
-  mark-not h = part-not 2 0 bs by_mark (λ g. absurd (omega arith))
+  cut-mark h = part-not 2 0 bs by_mark (λ g. absurd (omega arith))
+
+  -- the bytes do not begin with C and this letter
+  abbrev pub Other : ℕ → Type 0
+  Other letter = 2 ≤ length bs → get_or bs 0 0 ≡ 67 → get_or bs 1 0 ≡ letter → ⊥
+
+  pub no-mark : Other 80 → Other 81 → Other 71 → Other 69 → Other 82 → Other 70 → Other 86 → NotRead (read_call bs)
+  unfolding by_mark
+  no-mark p q g e r f v = go (ltb (length bs) 2) refl
+    where
+      go : (s : Bool) → ltb (length bs) 2 ≡ s → NotRead (read_call bs)
+      go true t = cut-mark (ltb-true (length bs) 2 t)
+      go false t =
+          let h = ltb-false (length bs) 2 t in
+          let a = get_or bs 0 0 in
+          let b = get_or bs 1 0 in
+          rw (mark-read h, two bs a b h refl refl, miss a b 80 (p h), miss a b 81 (q h), miss a b 71 (g h), miss a b 69 (e h), miss a b 82 (r h), miss a b 70 (f h), miss a b 86 (v h)) tt

@@ -1,36 +1,40 @@
 // The seven calls: each reads its inputs from the bytes of the call, mark and all, and is made on the store.
-ghost use Rattle.std.specs.Prelude.{◌≡◌, true, List, [], ℕ, ◌≤◌, length, take, drop};
-ghost use Rattle.std.proofs.Math.Option.{none, some};
+ghost use Rattle.std.specs.Prelude.{◌≡◌, List, [], ℕ, ◌≤◌, length, take, drop, None, Some};
 ghost use Rattle.wire.specs.Numbers.{num};
 ghost use Rattle.store_rules.specs.Store.{long, poll, enter_tentative};
-ghost use Rattle.store_rules.specs.View.{consumed_of, content_of};
+ghost use Rattle.store_rules.specs.View.{consumed_of};
 ghost use Rattle.decisions.specs.Courses.{form_of};
 ghost use Rattle.gap_quarantine.specs.Promises.{PerformsIn};
 ghost use Rattle.trace_format.specs.Reading.{read_push, read_poll, read_guard, read_enter, read_reorg, read_final, read_evict, got, content};
-ghost use Rattle.trace_calls.specs.Promises.{MakesCall, Makes, answered_as};
+ghost use Rattle.trace_calls.specs.Promises.{MakesOne, Makes, TwoLists, answered_as};
 
-use super::{Made, Reply, no_call};
+use super::{Called, Made, Reply, no_call};
 use decisions::rows::RowForm;
-use gap_quarantine::{Answered, NonceConsumed, ParkedFrame, Quarantine, Whose};
-use trace_parts::{address_at, hash_at, list_end, put_numbers};
+use gap_quarantine::{NonceConsumed, Outcome, ParkedFrame, Quarantine};
+use trace_parts::{list_end, put_numbers};
+use wire::array_at;
 
 // A call of so many bytes, an eviction or none, with what it answered.
-fn answered(size: usize, evicts: bool, r: Answered) -> Made
+fn answered(size: usize, evicts: bool, r: Outcome<Quarantine>) -> Made
     ensures { result ≡ answered_as size evicts r }
 {
-    let answer = r.answer;
-    let store = r.store;
     Made {
-        size: size,
-        evicts: evicts,
-        reply: Reply::Answered(answer),
-        whose: Whose {
-            found: false,
-            sender: [0u8; 20],
-            place: 0,
-        },
-        store: store,
+        call: Ok(Called {
+            size,
+            evicts,
+            reply: Reply::Answered(r.answer),
+        }),
+        store: r.store,
     }
+}
+
+// Where a list of numbers at a place ends, and where the list of bytes after it does, if neither is cut short.
+fn two_lists(bytes: &[u8], at: usize) -> Option<(usize, usize)>
+    ensures { TwoLists at bytes.now result }
+{
+    let middle = list_end(bytes, at, 8)?;
+    let end = list_end(bytes, middle, 1)?;
+    Some((middle, end))
 }
 
 // CP: a frame is parked.
@@ -41,8 +45,8 @@ pub(crate) fn push(q: Quarantine, bytes: &[u8]) -> Made
         return no_call(q);
     }
     let frame = ParkedFrame {
-        hash: hash_at(bytes, 2),
-        from: address_at(bytes, 34),
+        hash: array_at(bytes, 2),
+        from: array_at(bytes, 34),
         expected: wire::number(bytes, 54, 8),
         claim: wire::number(bytes, 62, 8),
         chain_id: wire::number(bytes, 70, 8),
@@ -60,8 +64,8 @@ fn poll_alone(
     head: u64,
     known: &[u64],
     rows: &mut [u64],
-) -> Answered
-    ensures { PerformsIn (form_of form) q (poll sender head known.now none) rows.old [] result rows.new [] }
+) -> Outcome<Quarantine>
+    ensures { PerformsIn (form_of form) q (poll sender head known.now None) rows.old [] result rows.new [] }
 {
     match form {
         RowForm::Long => q.poll(sender, head, known, rows),
@@ -79,8 +83,9 @@ fn poll_with_content(
     nonces: &[u64],
     hashes: &[u8],
     rows: &mut [u64],
-) -> Answered
-    ensures { PerformsIn (form_of form) q (poll sender head known.now (content_of true nonces.now hashes.now))
+) -> Outcome<Quarantine>
+    ensures { PerformsIn (form_of form) q
+        (poll sender head known.now (Some (record { nonces = nonces.entry.now; hashes = hashes.now })))
         rows.old [] result rows.new [] }
 {
     match form {
@@ -102,30 +107,18 @@ fn poll_content_at(
     ensures { (list hashes : List ℕ) → known.now ≡ take 257 list →
         Makes (form_of form) q bytes.now
         (content (drop at bytes.now)
-        (λ c. got (poll (take 20 (drop 2 bytes.now)) (num (take 8 (drop 22 bytes.now))) list (some c))))
+        (λ c. got (poll (take 20 (drop 2 bytes.now)) (num (take 8 (drop 22 bytes.now))) list (Some c))))
         rows.old hashes result rows.new hashes }
 {
-    let hashes_at = list_end(bytes, at, 8);
-    if hashes_at == 0 {
+    let Some((hashes_at, end)) = two_lists(bytes, at) else {
         return no_call(q);
-    }
-    let end = list_end(bytes, hashes_at, 1);
-    if end == 0 {
-        return no_call(q);
-    }
-    let mut nonces = [0u64; 65];
+    };
+    let mut nonces = [0; 65];
     let count = put_numbers(bytes, at, &mut nonces);
-    let from = hashes_at + 2;
-    let r = poll_with_content(
-        q,
-        form,
-        address_at(bytes, 2),
-        wire::number(bytes, 22, 8),
-        known,
-        &nonces[0..count],
-        &bytes[from..end],
-        rows,
-    );
+    let sender = array_at(bytes, 2);
+    let head = wire::number(bytes, 22, 8);
+    let hashes = &bytes[hashes_at + 2..end];
+    let r = poll_with_content(q, form, sender, head, known, &nonces[..count], hashes, rows);
     answered(end, false, r)
 }
 
@@ -135,62 +128,49 @@ pub fn make_poll(q: Quarantine, form: RowForm, bytes: &[u8], rows: &mut [u64]) -
     ensures { (hashes : List ℕ) → Makes (form_of form) q bytes.now (read_poll (drop 2 bytes.now))
         rows.old hashes result rows.new hashes }
 {
-    let at = list_end(bytes, 30, 8);
-    if at == 0 {
+    let Some(at) = list_end(bytes, 30, 8) else {
         return no_call(q);
-    }
-    if bytes.len() <= at {
-        return no_call(q);
-    }
-    let mut known = [0u64; 257];
+    };
+    let mut known = [0; 257];
     let count = put_numbers(bytes, 30, &mut known);
-    if bytes[at] == 1 {
-        return poll_content_at(q, form, bytes, at + 1, &known[0..count], rows);
-    }
-    if bytes[at] != 0 {
+    let Some(flag) = bytes.get(at) else {
         return no_call(q);
+    };
+    match *flag {
+        0 => {
+            let sender = array_at(bytes, 2);
+            let head = wire::number(bytes, 22, 8);
+            let r = poll_alone(q, form, sender, head, &known[..count], rows);
+            answered(at + 1, false, r)
+        }
+        1 => poll_content_at(q, form, bytes, at + 1, &known[..count], rows),
+        _ => no_call(q),
     }
-    let r = poll_alone(
-        q,
-        form,
-        address_at(bytes, 2),
-        wire::number(bytes, 22, 8),
-        &known[0..count],
-        rows,
-    );
-    answered(at + 1, false, r)
 }
 
 // CG: a guard of either kind is recorded. Over 16 predecessors their number alone decides the answer, so no more than 17 are kept.
 pub(crate) fn guard(q: Quarantine, bytes: &[u8]) -> Made
     ensures { (slice hashes : List ℕ) → Makes long q bytes.now (read_guard (drop 2 bytes.now)) slice hashes result slice hashes }
 {
-    let contents_at = list_end(bytes, 35, 8);
-    if contents_at == 0 {
+    let Some((contents_at, end)) = two_lists(bytes, 35) else {
         return no_call(q);
-    }
-    let end = list_end(bytes, contents_at, 1);
-    if end == 0 {
-        return no_call(q);
-    }
-    let hash = hash_at(bytes, 3);
-    let mut preds = [0u64; 17];
+    };
+    let hash = array_at(bytes, 3);
+    let mut preds = [0; 17];
     let count = put_numbers(bytes, 35, &mut preds);
-    let from = contents_at + 2;
-    let contents = &bytes[from..end];
-    if bytes[2] == 2 {
-        let r = q.record_unhydratable_guard_with_content(hash, &preds[0..count], contents);
-        return answered(end, false, r);
+    let contents = &bytes[contents_at + 2..end];
+    match bytes[2] {
+        1 if 8 <= bytes.len() - end => {
+            let boundary = wire::number(bytes, end, 8);
+            let r = q.record_repark_guard_with_content(hash, &preds[..count], contents, boundary);
+            answered(end + 8, false, r)
+        }
+        2 => {
+            let r = q.record_unhydratable_guard_with_content(hash, &preds[..count], contents);
+            answered(end, false, r)
+        }
+        _ => no_call(q),
     }
-    if bytes[2] != 1 {
-        return no_call(q);
-    }
-    if bytes.len() - end < 8 {
-        return no_call(q);
-    }
-    let boundary = wire::number(bytes, end, 8);
-    let r = q.record_repark_guard_with_content(hash, &preds[0..count], contents, boundary);
-    answered(end + 8, false, r)
 }
 
 // A frame becomes tentative, by a call of so many bytes.
@@ -202,21 +182,18 @@ fn enter_by(
     taker: [u8; 32],
 ) -> Made
     requires { 75 ≤ length bytes.now }
-    ensures { (result.size ≡ size) × ((slice hashes : List ℕ) →
-        MakesCall long q (enter_tentative (take 32 (drop 2 bytes.now)) (consumed_of consumed (take 32 (drop 43 bytes.now)) taker))
-        slice hashes result slice hashes) }
+    ensures { (slice hashes : List ℕ) →
+        MakesOne long q (enter_tentative (take 32 (drop 2 bytes.now)) (consumed_of consumed (take 32 (drop 43 bytes.now)) taker)) size
+        slice hashes result.call result.store slice hashes }
 {
-    let hash = hash_at(bytes, 2);
-    let block_hash = hash_at(bytes, 43);
-    let r = q.enter_tentative(hash, consumed, block_hash, taker);
-    let whose = r.whose;
-    let store = r.store;
+    let r = q.enter_tentative(array_at(bytes, 2), consumed, array_at(bytes, 43), taker);
     Made {
-        size: size,
-        evicts: false,
-        reply: Reply::Entered,
-        whose: whose,
-        store: store,
+        call: Ok(Called {
+            size,
+            evicts: false,
+            reply: Reply::Entered(r.whose),
+        }),
+        store: r.store,
     }
 }
 
@@ -228,25 +205,15 @@ pub(crate) fn enter(q: Quarantine, bytes: &[u8]) -> Made
         return no_call(q);
     }
     let block = wire::number(bytes, 35, 8);
-    if bytes[34] == 1 {
-        return enter_by(q, 75, bytes, NonceConsumed::MinedAt(block), [0u8; 32]);
+    match bytes[34] {
+        1 => enter_by(q, 75, bytes, NonceConsumed::MinedAt(block), [0; 32]),
+        2 => enter_by(q, 75, bytes, NonceConsumed::SlotTakenAt(block), [0; 32]),
+        3 if 107 <= bytes.len() => {
+            let taker = array_at(bytes, 75);
+            enter_by(q, 107, bytes, NonceConsumed::SlotTakenBy(block), taker)
+        }
+        _ => no_call(q),
     }
-    if bytes[34] == 2 {
-        return enter_by(q, 75, bytes, NonceConsumed::SlotTakenAt(block), [0u8; 32]);
-    }
-    if bytes[34] != 3 {
-        return no_call(q);
-    }
-    if bytes.len() < 107 {
-        return no_call(q);
-    }
-    enter_by(
-        q,
-        107,
-        bytes,
-        NonceConsumed::SlotTakenBy(block),
-        hash_at(bytes, 75),
-    )
 }
 
 // CR: a block is reorganised; its hash now, if there is one.
@@ -258,20 +225,14 @@ pub(crate) fn reorganise(q: Quarantine, bytes: &[u8], tickets: &mut [u64]) -> Ma
         return no_call(q);
     }
     let block = wire::number(bytes, 2, 8);
-    if bytes[10] == 0 {
-        return answered(11, false, q.check_reorg(block, false, [0u8; 32], tickets));
+    match bytes[10] {
+        0 => answered(11, false, q.check_reorg(block, None, tickets)),
+        1 if 43 <= bytes.len() => {
+            let hash = Some(array_at(bytes, 11));
+            answered(43, false, q.check_reorg(block, hash, tickets))
+        }
+        _ => no_call(q),
     }
-    if bytes[10] != 1 {
-        return no_call(q);
-    }
-    if bytes.len() < 43 {
-        return no_call(q);
-    }
-    answered(
-        43,
-        false,
-        q.check_reorg(block, true, hash_at(bytes, 11), tickets),
-    )
 }
 
 // CF: blocks become final.
@@ -282,11 +243,8 @@ pub(crate) fn finalise(q: Quarantine, bytes: &[u8], numbers: &mut [u64], hashes:
     if bytes.len() < 10 {
         return no_call(q);
     }
-    answered(
-        10,
-        false,
-        q.check_finalized(wire::number(bytes, 2, 8), numbers, hashes),
-    )
+    let n = wire::number(bytes, 2, 8);
+    answered(10, false, q.check_finalized(n, numbers, hashes))
 }
 
 // CV: a sender is evicted.
@@ -297,5 +255,5 @@ pub(crate) fn evict(q: Quarantine, bytes: &[u8], tickets: &mut [u64]) -> Made
     if bytes.len() < 22 {
         return no_call(q);
     }
-    answered(22, true, q.evict_sender(address_at(bytes, 2), tickets))
+    answered(22, true, q.evict_sender(array_at(bytes, 2), tickets))
 }

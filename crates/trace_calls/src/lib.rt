@@ -14,21 +14,25 @@ mod calls; // calls.rt: the seven calls
 pub use calls::make_poll;
 pub use decisions::rows::RowForm;
 
-// What a call answers. Entering answers whose the frame is that entered.
+// What a call answers. Entering answers whose the frame is that entered, if one did.
 #[derive(Clone, Copy)]
 pub enum Reply {
-    Answered(Answer),
-    Entered,
+    Answered(Result<Answer, Refusal>),
+    Entered(Option<Whose>),
 }
 
-// A call that was made: its size in bytes, whether it is an eviction, its reply, whose the frame is that entered, zeros at any other
-// call, and the store after it. Where no call stands the size is 0 and the reply is refusal 19.
+// A call that was made: its size in bytes, whether it is an eviction, and its reply.
 #[derive(Clone, Copy)]
-pub struct Made {
+pub struct Called {
     pub size: usize,
     pub evicts: bool,
     pub reply: Reply,
-    pub whose: Whose,
+}
+
+// The call that the bytes begin with, or refusal 19 where none stands; and the store after it.
+#[derive(Clone, Copy)]
+pub struct Made {
+    pub call: Result<Called, Refusal>,
     pub store: Quarantine,
 }
 
@@ -37,14 +41,7 @@ fn no_call(q: Quarantine) -> Made
     ensures { result ≡ nothing q }
 {
     Made {
-        size: 0,
-        evicts: false,
-        reply: Reply::Answered(Answer::Refused(Refusal::BadTrace)),
-        whose: Whose {
-            found: false,
-            sender: [0u8; 20],
-            place: 0,
-        },
+        call: Err(Refusal::BadTrace),
         store: q,
     }
 }
@@ -54,30 +51,14 @@ pub fn make_call(q: Quarantine, bytes: &[u8], numbers: &mut [u64], hashes: &mut 
     ensures { Makes long q bytes.now (read_call bytes.now)
         numbers.old hashes.old result numbers.new hashes.new }
 {
-    if bytes.len() < 2 {
-        return no_call(q);
+    match bytes {
+        [b'C', b'P', ..] => calls::push(q, bytes),
+        [b'C', b'Q', ..] => calls::make_poll(q, RowForm::Long, bytes, numbers),
+        [b'C', b'G', ..] => calls::guard(q, bytes),
+        [b'C', b'E', ..] => calls::enter(q, bytes),
+        [b'C', b'R', ..] => calls::reorganise(q, bytes, numbers),
+        [b'C', b'F', ..] => calls::finalise(q, bytes, numbers, hashes),
+        [b'C', b'V', ..] => calls::evict(q, bytes, numbers),
+        _ => no_call(q),
     }
-    let mark = &bytes[0..2];
-    if lists::same_bytes(mark, b"CP") {
-        return calls::push(q, bytes);
-    }
-    if lists::same_bytes(mark, b"CQ") {
-        return calls::make_poll(q, RowForm::Long, bytes, numbers);
-    }
-    if lists::same_bytes(mark, b"CG") {
-        return calls::guard(q, bytes);
-    }
-    if lists::same_bytes(mark, b"CE") {
-        return calls::enter(q, bytes);
-    }
-    if lists::same_bytes(mark, b"CR") {
-        return calls::reorganise(q, bytes, numbers);
-    }
-    if lists::same_bytes(mark, b"CF") {
-        return calls::finalise(q, bytes, numbers, hashes);
-    }
-    if lists::same_bytes(mark, b"CV") {
-        return calls::evict(q, bytes, numbers);
-    }
-    no_call(q)
 }

@@ -4,7 +4,7 @@ use native.Mathlib.Omega.{arith}
 use mathlib.Core.Path.{◌≡◌, refl, sym, ap, ◌∙◌}
 use mathlib.Core.Bool.{Bool, true, false, cond}
 use mathlib.Core.List.{[], ◌++◌, append_assoc}
-use mathlib.Core.Option.{none, some}
+use Rattle.std.specs.Prelude.{None, Some}
 use lib.Dec.{leb}
 use lib.ListN.{length, take, drop, length-append, take-append-drop}
 use lib.Seq.{length-take-le, take-append-le, drop-append-le, take_at, drop_at}
@@ -123,7 +123,7 @@ module _ {A : Type 0} where
 
   optional-local : {B : Type 0} (n : ℕ) (value : Bytes → (B → Bytes → Read A) → Read A) → LocalPart n value → LocalPart 1 (optional value)
   unfolding optional
-  optional-local n value v = record { then = λ {k} h. byte-local.then (λ flag. flag-local flag k (h none) (shorter (omega arith) (v.then (λ b. h (some b))))) }
+  optional-local n value v = record { then = λ {k} h. byte-local.then (λ flag. flag-local flag k (h None) (shorter (omega arith) (v.then (λ b. h (Some b))))) }
 
   content-local : LocalPart 4 content
   unfolding content

@@ -1,7 +1,7 @@
 -- How one call is read from the bytes that begin with it (request 2027-06): a mark, and then the call's inputs in document 01's
 -- order and widths, little-endian.
 use Rattle.std.specs.Prelude.{ℕ, zero, suc, ◌*◌, cond, List, [], ◌∷◌, map, leb, length, take, drop}
-use Rattle.std.proofs.Math.Option.{Option, none, some}
+use Rattle.std.specs.Prelude.{Option, None, Some}
 use Rattle.lists.specs.Bytes.{Bytes, eq_bytes}
 use Rattle.lists.specs.Lists.{chunks}
 use Rattle.wire.specs.Numbers.{num}
@@ -51,7 +51,7 @@ module _ {A : Type 0} where
 
   -- an optional value, which is read so where it is present
   unfoldable pub optional : {B : Type 0} → (Bytes → (B → Bytes → Read A) → Read A) → Bytes → (Option B → Bytes → Read A) → Read A
-  optional value bs next = byte bs (λ flag rest. by_flag flag (next none rest) (value rest (λ v. next (some v))))
+  optional value bs next = byte bs (λ flag rest. by_flag flag (next None rest) (value rest (λ v. next (Some v))))
 
   -- the content of a poll: nonces, then hashes
   unfoldable pub content : Bytes → (Content → Bytes → Read A) → Read A

@@ -1,6 +1,6 @@
 -- How a call is written, so that it can be read: and which calls fit document 01's widths.
 use Rattle.std.specs.Prelude.{ℕ, ◌<◌, ◌^◌, ◌≡◌, List, [], ◌∷◌, ◌++◌, length}
-use Rattle.std.proofs.Math.Option.{Option, none, some}
+use Rattle.std.specs.Prelude.{Option, None, Some}
 use Rattle.lists.specs.Bytes.{Bytes}
 use Rattle.lists.specs.Lists.{collect, Each}
 use Rattle.wire.specs.Numbers.{digits}
@@ -19,8 +19,8 @@ unfoldable pub hashes_written : Bytes → Bytes
 hashes_written bs = digits 2 (length bs) ++ bs
 
 unfoldable pub optional_written : {A : Type 0} → (A → Bytes) → Option A → Bytes
-optional_written value none = 0 ∷ []
-optional_written value (some v) = 1 ∷ value v
+optional_written value None = 0 ∷ []
+optional_written value (Some v) = 1 ∷ value v
 
 unfoldable pub content_written : Content → Bytes
 content_written c = numbers_written c.nonces ++ hashes_written c.hashes
@@ -71,8 +71,8 @@ abbrev pub NumbersFit : List ℕ → Type 0
 NumbersFit l = CountFits l × Each NumberFits l
 
 abbrev pub OptionFits : {A : Type 0} → (A → Type 0) → Option A → Type 0
-OptionFits fits none = Unit {0}
-OptionFits fits (some v) = fits v
+OptionFits fits None = Unit {0}
+OptionFits fits (Some v) = fits v
 
 abbrev pub ContentFits : Content → Type 0
 ContentFits c = NumbersFit c.nonces × CountFits c.hashes

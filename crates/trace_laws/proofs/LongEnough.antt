@@ -4,7 +4,8 @@ use native.Mathlib.Omega.{arith}
 use mathlib.Core.Path.{◌≡◌, refl, subst}
 use mathlib.Core.Bool.{Bool, true, false, ◌&&◌, cond}
 use mathlib.Core.List.{List, [], ◌∷◌, ◌++◌, map}
-use mathlib.Core.Option.{Option, none, some, or_else}
+use Rattle.std.specs.Prelude.{Option, None, Some}
+use Rattle.std.specs.Option.{option_or}
 use lib.Dec.{eqb, leb}
 use lib.ListN.{length, length-append}
 use borrow.Author.Tests.{ltb-true, le-ltb}
@@ -62,18 +63,17 @@ few-finalized n g e = go e.standing.state
 -- ---- the refusals of one call
 
 abbrev NotFive : Option ℕ → Type 0
-NotFive none = Unit {0}
-NotFive (some n) = n ≡ 5 → ⊥
+NotFive None = Unit {0}
+NotFive (Some n) = n ≡ 5 → ⊥
 
 when-not-five : (b : Bool) (n : ℕ) → (b ≡ true → n ≡ 5 → ⊥) → NotFive (when b n)
 unfolding when
 when-not-five true n h = h refl
 when-not-five false n h = tt
 
-or-not-five : (o p : Option ℕ) → NotFive o → NotFive p → NotFive (or_else o p)
-unfolding or_else
-or-not-five none p h k = k
-or-not-five (some n) p h k = h
+or-not-five : (o p : Option ℕ) → NotFive o → NotFive p → NotFive (option_or o p)
+or-not-five None p h k = k
+or-not-five (Some n) p h k = h
 
 input-not-five : (c : Call) → NotFive (input_refusal c)
 unfolding input_refusal
@@ -110,11 +110,11 @@ effect-answers s (evict_sender a) = refl
 
 step-not-five : (s : Store) (c : Call) → length s.entries ≤ 64 → refusal_in (step s (lent c)).1 ≡ 5 → ⊥
 unfolding step unless refusal lent refusal_in
-step-not-five s c h = go (or_else (input_refusal c) (room_refusal s c long 1216 4096)) (or-not-five _ _ (input-not-five c) (room-not-five s c h))
+step-not-five s c h = go (option_or (input_refusal c) (room_refusal s c long 1216 4096)) (or-not-five _ _ (input-not-five c) (room-not-five s c h))
   where
     go : (o : Option ℕ) → NotFive o → refusal_in (unless o s (effect s c)).1 ≡ 5 → ⊥
-    go none k e = omega (arith, effect-answers s c)
-    go (some n) k e = k e
+    go None k e = omega (arith, effect-answers s c)
+    go (Some n) k e = k e
 
 -- ---- in a run
 

@@ -4,7 +4,7 @@ use native.Mathlib.Omega.{arith}
 use mathlib.Core.Path.{◌≡◌, refl, ◌∙◌}
 use mathlib.Core.Bool.{true}
 use mathlib.Core.List.{List, [], ◌∷◌, ◌++◌, append_assoc, map}
-use mathlib.Core.Option.{none, some}
+use Rattle.std.specs.Prelude.{None, Some}
 use lib.ListN.{length}
 use lib.Seq.{take_at, drop_at}
 use Rattle.lists.specs.Bytes.{Bytes, eq_bytes}
@@ -64,8 +64,8 @@ module _ {A : Type 0} where
   optional-back : {B : Type 0} (fits : B → Type 0) (write : B → Bytes) (value : Bytes → (B → Bytes → Read A) → Read A) → Back fits write value →
       Back (OptionFits fits) (optional_written write) (optional value)
   unfolding optional optional_written by_flag
-  optional-back fits write value b none rest next h = byte-back 0 rest _
-  optional-back fits write value b (some v) rest next h = byte-back 1 (write v ++ rest) _ ∙ b v rest _ h
+  optional-back fits write value b None rest next h = byte-back 0 rest _
+  optional-back fits write value b (Some v) rest next h = byte-back 1 (write v ++ rest) _ ∙ b v rest _ h
 
 -- ---- the seven calls
 

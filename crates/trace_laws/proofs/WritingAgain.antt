@@ -4,7 +4,7 @@ use native.Mathlib.Omega.{arith}
 use mathlib.Core.Path.{◌≡◌, refl, sym, ap, ◌∙◌, subst}
 use mathlib.Core.Bool.{Bool, true, false, cond}
 use mathlib.Core.List.{[], ◌∷◌, ◌++◌, append_assoc, append-nil, map}
-use mathlib.Core.Option.{none, some}
+use Rattle.std.specs.Prelude.{None, Some}
 use lib.Dec.{leb, ltb}
 use lib.ListN.{length, take, drop, length-map, take-append-drop, length-drop}
 use lib.Seq.{length-take-le}
@@ -108,9 +108,9 @@ optional-again : {B : Type 0} (fits : B → Type 0) (write : B → Bytes) (value
 unfolding optional optional_written by_flag
 optional-again fits write value v front next f = byte-again front _ go
   where
-    go : (flag : ℕ) → Again (front ++ (flag ∷ [])) (λ bs. by_flag flag (next none bs) (value bs (λ x. next (some x))))
-    go zero = f none tt
-    go (suc zero) = v (front ++ (1 ∷ [])) _ (λ x p. rw (append_assoc front (1 ∷ []) (write x)) (f (some x) p))
+    go : (flag : ℕ) → Again (front ++ (flag ∷ [])) (λ bs. by_flag flag (next None bs) (value bs (λ x. next (Some x))))
+    go zero = f None tt
+    go (suc zero) = v (front ++ (1 ∷ [])) _ (λ x p. rw (append_assoc front (1 ∷ []) (write x)) (f (Some x) p))
     go (suc (suc n)) = bad-again
 
 -- ---- the seven calls

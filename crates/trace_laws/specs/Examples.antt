@@ -1,6 +1,6 @@
 -- Traces of document 01's frame F, byte by byte, what each is read as, and its totals.
 use Rattle.std.specs.Prelude.{ℕ, ◌≡◌, true, false, [], ◌∷◌, ◌++◌, take, replicate}
-use Rattle.std.proofs.Math.Option.{none}
+use Rattle.std.specs.Prelude.{None}
 use Rattle.lists.specs.Bytes.{Bytes}
 use Rattle.store_rules.specs.Frames.{Frame, taken, unhydratable}
 use Rattle.store_rules.specs.Store.{empty, push, poll, guard, enter_tentative}
@@ -53,7 +53,7 @@ evict_f = 67 ∷ 86 ∷ address
 
 pub record Examples : Type 0 where
   -- F is pushed, and rescued at head 8
-  pub rescued : read_trace (push_f ++ poll_f) ≡ record { calls = push frame_f ∷ poll address 8 [] none ∷ []; whole = true }
+  pub rescued : read_trace (push_f ++ poll_f) ≡ record { calls = push frame_f ∷ poll address 8 [] None ∷ []; whole = true }
   pub rescued_lines : lines (read_trace (push_f ++ poll_f)) ≡ 0 ∷ 0 ∷ []
   pub rescued_store : end_store (read_trace (push_f ++ poll_f)) ≡ empty
   -- the second call is a byte short: the first was run

@@ -1,5 +1,5 @@
 -- The lines of a trace, one after another; and what is printed of a file, where the buffer holds one byte more than a trace may have.
-use Prim.Native.Nat.{ℕ, ◌+◌, ◌≤◌, ◌<◌}
+use Prim.Native.Nat.{ℕ, ◌+◌, ◌≤◌, ◌<◌, min}
 use native.Mathlib.Numerals.{add-one}
 use native.Mathlib.Omega.{arith}
 use mathlib.Core.Path.{◌≡◌, refl, ap, sym, ◌∙◌}
@@ -8,7 +8,7 @@ use mathlib.Core.List.{List, [], ◌++◌, append-nil}
 use lib.Dec.{ltb}
 use lib.ListN.{length, take, drop, get_or, length-take, drop_of_length-le}
 use lib.Seq.{drop-cons, take_at}
-use borrow.Author.Tests.{lt-ltb, ltb-true}
+use borrow.Author.Tests.{lt-ltb, ltb-true, ltb-false}
 use Rattle.lists.specs.Bytes.{Bytes}
 use Rattle.store_rules.specs.Totals.{Totals}
 use Rattle.trace_format.specs.Traces.{Trace, read_trace, refusals, lines_from, lines, trace_totals}
@@ -51,10 +51,10 @@ unfolding trace_lines read_trace lines lines_from refusals placed_lines placed_l
 over trace h = rw (lt-ltb 65536 (length trace) h)
 
 -- so it is enough to run what the buffer holds
-pub printed : (n : ℕ) (read : Bytes) → 65536 < length read → trace_lines (read_trace (take n read)) ≡ trace_output n read
+pub printed : (n k : ℕ) (read : Bytes) → 65536 < length read → k ≡ min n (length read) → trace_lines (read_trace (take k read)) ≡ trace_output n read
 unfolding trace_output
-printed n read long = go (ltb 65536 n) refl
+printed n k read long e = go (ltb 65536 n) refl
   where
-    go : (b : Bool) → ltb 65536 n ≡ b → trace_lines (read_trace (take n read)) ≡ cond b (placed_line 0 19) (trace_lines (read_trace (take n read)))
-    go true e = over (take n read) (rw (length-take n read) (omega (arith, ltb-true 65536 n e)))
-    go false e = refl
+    go : (b : Bool) → ltb 65536 n ≡ b → trace_lines (read_trace (take k read)) ≡ cond b (placed_line 0 19) (trace_lines (read_trace (take n read)))
+    go true t = over (take k read) (rw (length-take k read) (omega (arith, ltb-true 65536 n t)))
+    go false t = let same : k ≡ n = omega (arith, ltb-false 65536 n t) in ap (λ (j : ℕ). trace_lines (read_trace (take j read))) same

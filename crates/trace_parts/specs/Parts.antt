@@ -1,5 +1,5 @@
 -- Lists in bytes, at a place.
-use Rattle.std.specs.Prelude.{ℕ, ◌+◌, ◌*◌, ◌≡◌, cond, List, map, leb, length, take, drop}
+use Rattle.std.specs.Prelude.{ℕ, ◌+◌, ◌*◌, ◌≡◌, cond, List, Option, None, Some, map, leb, length, take, drop}
 use Rattle.lists.specs.Bytes.{Bytes}
 use Rattle.lists.specs.Lists.{chunks, written}
 use Rattle.wire.specs.Numbers.{num}
@@ -15,6 +15,10 @@ list_end width at bs = at + 2 + width * count_at at bs
 -- a place, or 0 if the bytes end before it
 abbrev pub end_in : Bytes → ℕ → ℕ
 end_in bs end = cond (leb end (length bs)) end 0
+
+-- a place, or none if the bytes end before it
+abbrev pub place_in : Bytes → ℕ → Option ℕ
+place_in bs end = cond (leb end (length bs)) (Some end) None
 
 -- the bytes of a list
 abbrev pub bytes_at : ℕ → ℕ → Bytes → Bytes

@@ -1,10 +1,10 @@
 -- One call of a trace: the number, the counts and the store that it leads to, and that no count overflows.
-use Prim.Native.Nat.{ℕ, ◌+◌, ◌*◌, ◌≤◌}
+use Prim.Native.Nat.{ℕ, ◌+◌, ◌*◌, ◌-◌, ◌≤◌}
 use native.Mathlib.Omega.{arith}
 use mathlib.Core.Path.{◌≡◌, refl, sym, ap, ◌∙◌}
 use mathlib.Core.Bool.{Bool, true, false}
 use mathlib.Core.List.{List}
-use mathlib.Core.Option.{none, some}
+use Rattle.std.specs.Prelude.{None, Some, Result, Ok, Err}
 use lib.ListN.{length}
 use Rattle.lists.specs.Bytes.{Bytes}
 use Rattle.lists.proofs.Writing.{written-fits}
@@ -12,8 +12,11 @@ use Rattle.store_rules.specs.Store.{Store, Call, long, short, row_width, Answer,
 use Rattle.store_rules.specs.Answers.{Said, says_total, says_rows, says_recorded, says_entered, says_frames, says_dead, says_refused, said, numbers_of}
 use Rattle.store_rules.specs.Sweeps.{single}
 use Rattle.store_rules.specs.Totals.{accepted_in, rescued_in, dead_in, evicted_in}
-use Rattle.store_rules.specs.declared.lookup.Whose.{Whose}
+use Rattle.refusal.specs.declared.Refusal.{Refusal}
+use Rattle.refusal.specs.declared.Refusal.TheVariants.{BadTrace}
 use Rattle.answers.specs.Promises.{heard}
+use Rattle.answers.specs.declared.Answer as coded
+use Rattle.answers.specs.declared.Answer.TheVariants as coded-answer
 use Rattle.gap_quarantine.specs.Promises.{view_of}
 use Rattle.gap_quarantine.specs.declared.Quarantine.{Quarantine}
 use Rattle.trace_format.specs.Reading.{got, cut_short, bad, ReadCall}
@@ -22,7 +25,9 @@ use Rattle.trace_totals.specs.Counting.{zero, rescue_rows, plus, Below, numbers_
 use Rattle.trace_totals.specs.declared.Counts.{Counts}
 use Rattle.trace_totals.proofs.Rows.{rescue-rows-few}
 use Rattle.trace_totals.proofs.Adding.{adds, numbers-said}
-use Rattle.trace_calls.specs.Promises.{reply_said, Makes}
+use Rattle.trace_format.specs.Standing.{NotRead}
+use Rattle.trace_calls.specs.Promises.{reply_said, MakesCall, Makes}
+use Rattle.trace_calls.specs.declared.Called.{Called}
 use Rattle.trace_calls.specs.declared.Made.{Made}
 use Rattle.trace_calls.specs.declared.Reply.{Reply}
 use Rattle.trace_calls.specs.declared.Reply.TheVariants.{Answered, Entered}
@@ -36,21 +41,32 @@ unfolding said refusal_in
 said-number (total n) = refl
 said-number (rows l) = refl
 said-number recorded = refl
-said-number (entered (some w)) = refl
-said-number (entered none) = refl
+said-number (entered (Some w)) = refl
+said-number (entered None) = refl
 said-number (frames l) = refl
 said-number (dead l) = refl
 said-number (refused n) = refl
 
-reply-number : (r : Reply) (w : Whose) → number_of r ≡ number_said (reply_said r w)
-reply-number (Answered a) w = refl
-reply-number Entered w = refl
+-- an answer that is no refusal
+pub ok-number : (a : coded.Answer) → 0 ≡ number_said (heard (Ok a))
+ok-number (coded-answer.Total n) = refl
+ok-number (coded-answer.Rows n) = refl
+ok-number (coded-answer.ShortRows n) = refl
+ok-number coded-answer.Recorded = refl
+ok-number (coded-answer.Frames n) = refl
+ok-number (coded-answer.Dead n) = refl
+
+reply-number : (r : Reply) → number_of r ≡ number_said (reply_said r)
+reply-number (Answered a) = refl
+reply-number (Entered (Some w)) = refl
+reply-number (Entered None) = refl
 
 -- ---- what it leads to
 
-reply-listed : (r : Reply) (w : Whose) → numbers_listed r ≡ numbers_said (reply_said r w)
-reply-listed (Answered a) w = refl
-reply-listed Entered w = refl
+reply-listed : (r : Reply) → numbers_listed r ≡ numbers_said (reply_said r)
+reply-listed (Answered a) = refl
+reply-listed (Entered (Some w)) = refl
+reply-listed (Entered None) = refl
 
 nothing-added : (n : Counts) → n ≡ plus n 0 0 0 0
 nothing-added n =
@@ -60,9 +76,10 @@ nothing-added n =
     let e : n.evicted ≡ n.evicted + 0 = omega arith in
     λ i. record { accepted = a i; rescued = r i; dead = d i; evicted = e i }
 
-reply-counted : (n : Counts) (b : Bool) (r : Reply) (w : Whose) (numbers : List ℕ) → counted_by n b r numbers ≡ counted n b (reply_said r w) numbers
-reply-counted n b (Answered a) w numbers = refl
-reply-counted n b Entered w numbers = nothing-added n
+reply-counted : (n : Counts) (b : Bool) (r : Reply) (numbers : List ℕ) → counted_by n b r numbers ≡ counted n b (reply_said r) numbers
+reply-counted n b (Answered a) numbers = refl
+reply-counted n b (Entered (Some w)) numbers = nothing-added n
+reply-counted n b (Entered None) numbers = nothing-added n
 
 -- the counts with what the answer of a call adds
 abbrev pub plus_call : Counts → Store → Call → Counts
@@ -70,34 +87,46 @@ plus_call n s c =
     let a = (step s (lent c)).1 in
     plus n (accepted_in a) (rescued_in a) (dead_in a) (evicted_in (single (lent c)) a)
 
--- the number, the counts and the store that a call leads to, as it is read
-abbrev pub LeadsTo : Store → Counts → ReadCall → ℕ → Counts → Store → Type 0
-LeadsTo s n (got c rest) number n' t = (number ≡ refusal_in (step s (lent c)).1) × (n' ≡ plus_call n s c) × (t ≡ (step s (lent c)).0)
-LeadsTo s n cut_short number n' t = (number ≡ 19) × (n' ≡ n) × (t ≡ s)
-LeadsTo s n bad number n' t = (number ≡ 19) × (n' ≡ n) × (t ≡ s)
+-- ---- the call that stands, or none
 
-module _ (q : Quarantine) (bs : Bytes) (numbers hashes : List ℕ) (r : Made) (numbers' hashes' : List ℕ) (long-numbers : length numbers ≡ 1216) (long-hashes : length hashes ≡ 4096) where
-  pub leads-to : (read : ReadCall) (n : Counts) → Makes long q bs read numbers hashes r numbers' hashes' →
-      LeadsTo (view_of q) n read (number_of r.reply) (counted_by n r.evicts r.reply numbers') (view_of r.store)
+-- the call that was read is the one that was made
+pub record IsRead (q : Quarantine) (bs : Bytes) (numbers hashes : List ℕ) (read : ReadCall) (k : Called) (store : Quarantine) (numbers' hashes' : List ℕ) : Type 0 where
+  pub c : Call
+  pub rest : Bytes
+  pub is : read ≡ got c rest
+  pub made : MakesCall long q c (length bs - length rest) numbers hashes k store numbers' hashes'
+
+module _ (q : Quarantine) (bs : Bytes) (numbers hashes : List ℕ) (numbers' hashes' : List ℕ) (r : Made) where
+  pub is-read : (read : ReadCall) (k : Called) → r.call ≡ Ok k → Makes long q bs read numbers hashes r numbers' hashes' → IsRead q bs numbers hashes read k r.store numbers' hashes'
+  is-read (got c rest) k e m = record { c = c; rest = rest; is = refl; made = rw e at m }
+  is-read cut_short k e m = let x : ◌≡◌ {A = Result Called Refusal} (Err BadTrace) (Ok k) = ap (λ (s : Made). s.call) (sym m.0) ∙ e in cc
+  is-read bad k e m = let x : ◌≡◌ {A = Result Called Refusal} (Err BadTrace) (Ok k) = ap (λ (s : Made). s.call) (sym m.0) ∙ e in cc
+
+  pub not_read : (read : ReadCall) (x : Refusal) → r.call ≡ Err x → Makes long q bs read numbers hashes r numbers' hashes' → NotRead read × (r.store ≡ q)
+  not_read (got c rest) x e m = absurd (rw e at m)
+  not_read cut_short x e m = (tt, ap (λ (s : Made). s.store) m.0)
+  not_read bad x e m = (tt, ap (λ (s : Made). s.store) m.0)
+
+module _ (q : Quarantine) (bs : Bytes) (numbers hashes : List ℕ) (read : ReadCall) (k : Called) (store : Quarantine) (numbers' hashes' : List ℕ) (long-numbers : length numbers ≡ 1216) (long-hashes : length hashes ≡ 4096)
+    (m : IsRead q bs numbers hashes read k store numbers' hashes') where
+  -- the number, the counts and the store that it leads to
+  pub leads-to : (n : Counts) →
+      (number_of k.reply ≡ refusal_in (step (view_of q) (lent m.c)).1) × (counted_by n k.evicts k.reply numbers' ≡ plus_call n (view_of q) m.c) × (view_of store ≡ (step (view_of q) (lent m.c)).0)
   unfolding lent
-  leads-to (got c rest) n m =
+  leads-to n =
       let g = rw (long-numbers, long-hashes) at m.made.steps in (
-        reply-number r.reply r.whose ∙ ap number_said g.answer ∙ said-number _,
-        rw (reply-counted n r.evicts r.reply r.whose numbers', g.answer, g.numbers_after, m.made.evicts) (adds (view_of q) (lent c) n numbers),
+        reply-number k.reply ∙ ap number_said g.answer ∙ said-number _,
+        rw (reply-counted n k.evicts k.reply numbers', g.answer, g.numbers_after, m.made.evicts) (adds (view_of q) (lent m.c) n numbers),
         g.store,
       )
-  leads-to cut_short n m = rw m.made.0 (refl, sym (nothing-added n), refl)
-  leads-to bad n m = rw m.made.0 (refl, sym (nothing-added n), refl)
 
-  -- what a call lists is in the slice
-  pub list-fits : (read : ReadCall) → length numbers' ≡ 1216 → Makes long q bs read numbers hashes r numbers' hashes' → numbers_listed r.reply ≤ 1216
+  -- what it lists is in the slice
+  pub list-fits : length numbers' ≡ 1216 → numbers_listed k.reply ≤ 1216
   unfolding lent
-  list-fits (got c rest) e m =
+  list-fits e =
       let g = rw (long-numbers, long-hashes) at m.made.steps in
-      let fits = written-fits (numbers_of long (step (view_of q) (lent c)).1) numbers numbers' g.numbers_after (e ∙ sym long-numbers) in
-      rw (reply-listed r.reply r.whose, g.answer) (omega (arith, numbers-said (view_of q) (lent c), fits, long-numbers))
-  list-fits cut_short e m = rw m.made.0 (omega arith)
-  list-fits bad e m = rw m.made.0 (omega arith)
+      let fits = written-fits (numbers_of long (step (view_of q) (lent m.c)).1) numbers numbers' g.numbers_after (e ∙ sym long-numbers) in
+      rw (reply-listed k.reply, g.answer) (omega (arith, numbers-said (view_of q) (lent m.c), fits, long-numbers))
 
 -- ---- the counts
 
@@ -130,7 +159,7 @@ module _ (n : Counts) (calls : ℕ) (few : Few n calls) where
 
   pub few-after : (b : Bool) (r : Reply) (numbers : List ℕ) → numbers_listed r ≤ 1216 → Few (counted_by n b r numbers) (calls + 1)
   few-after b (Answered a) numbers h = few-said b (heard a) numbers h
-  few-after b Entered numbers h = rw (nothing-added n) few-still
+  few-after b (Entered whose) numbers h = rw (nothing-added n) few-still
 
   -- there is room for one more call
   pub few-below : calls ≤ 6553 → Below n 1217

@@ -16,17 +16,16 @@ use Rattle.store_rules.specs.Totals.{Totals, answers, totals}
 use Rattle.queries.specs.Queries.{len}
 use Rattle.gap_quarantine.specs.Promises.{view_of}
 use Rattle.gap_quarantine.specs.declared.Quarantine.{Quarantine}
-use Rattle.trace_format.specs.Reading.{got, cut_short, bad, ReadCall, read_call}
+use Rattle.trace_format.specs.Reading.{got, read_call}
 use Rattle.trace_format.specs.Standing.{NotRead}
 use Rattle.trace_format.specs.Traces.{Trace, read_trace, lent, end_store, refusal_in, refusals, lines_from, lines, trace_totals}
 use Rattle.trace_format.proofs.Standing.{call-place}
 use Rattle.trace_format.proofs.Calls.{ReadAs, no_calls, with_call, read_none, read-no-call, read-call, read_whole}
 use Rattle.trace_totals.specs.Counting.{zero, with_held}
 use Rattle.trace_totals.specs.declared.Counts.{Counts}
-use Rattle.trace_calls.specs.Promises.{end_of}
 use Rattle.trace_run.specs.Promises.{ended_with, totals_of, RunsTo}
 use Rattle.trace_run.specs.declared.Ran.{Ran}
-use Rattle.trace_run.proofs.Calling.{plus_call, LeadsTo, Few, few-none}
+use Rattle.trace_run.proofs.Calling.{plus_call, Few, few-none}
 
 -- ---- the lines that are written
 
@@ -132,44 +131,36 @@ module _ (bs : Bytes) (slice₀ : List ℕ) where
     left h = rw (drop-cons bs at 0 h)
 
     -- what is read there
-    module _ (number : ℕ) (n' : Counts) (t : Store) (h : at < length bs) where
+    module _ (h : at < length bs) where
       -- no call stands here
-      stops : NotRead (read_call (drop at bs)) → number ≡ 19 → n' ≡ n → t ≡ s → Ends (take count slice ++ (number ∷ [])) false n' t
-      stops u e m f = rw (e, m, f) (ends-here (take count slice) false n s (g.ends (no_calls false) (read-no-call (drop at bs) (left h) u)))
+      pub stops : NotRead (read_call (drop at bs)) → Ends (take count slice ++ (19 ∷ [])) false n s
+      stops u = ends-here (take count slice) false n s (g.ends (no_calls false) (read-no-call (drop at bs) (left h) u))
 
-      goes : (c : Call) (rest : Bytes) → read_call (drop at bs) ≡ got c rest → number ≡ refusal_in (step s (lent c)).1 → n' ≡ plus_call n s c → t ≡ (step s (lent c)).0 → Few n' (count + 1) → count < length slice →
-          Going t n' (set slice count number) (count + 1) (at + (length (drop at bs) - length rest))
+      pub goes : (number : ℕ) (n' : Counts) (t : Store) (c : Call) (rest : Bytes) → read_call (drop at bs) ≡ got c rest → (size : ℕ) → size ≡ length (drop at bs) - length rest →
+          number ≡ refusal_in (step s (lent c)).1 → n' ≡ plus_call n s c → t ≡ (step s (lent c)).0 → Few n' (count + 1) → count < length slice →
+          (0 < size) × Going t n' (set slice count number) (count + 1) (at + size)
       unfolding lines_from refusals run
-      goes c rest is e m f sums room =
+      goes number n' t c rest is size z e m f sums room =
           let p = call-place (drop at bs) c rest is in
           let l = length-drop at bs in
-          let w = one_more slice₀ slice count (take count slice) number g.front room in
-          record {
-            within = omega (arith, p.1);
-            few = omega (arith, p.1, g.few);
-            sums = sums;
-            front = record { same = w.same; room = w.room; holds = refl; past = w.past };
-            ends = λ u r.
-                let x = g.ends (with_call c u) (read-call (drop at bs) rest c u is (subst (λ (b : Bytes). ReadAs b u) (sym (p.0 ∙ drop-drop (length (drop at bs) - length rest) at bs)) r)) in
-                record {
-                  lines_are = rw (w.holds, append_assoc (take count slice) (number ∷ []), e, f) x.lines_are;
-                  whole_as = x.whole_as;
-                  totals_are = rw (m, f) (x.totals_are ∙ with_call_lem n s c (map single (map lent u.calls)));
-                  store_is = rw f x.store_is;
-                };
-          }
-
-      pub stops_at : (read : ReadCall) → read_call (drop at bs) ≡ read → (size : ℕ) → size ≡ end_of (drop at bs) read → LeadsTo s n read number n' t → size ≡ 0 →
-          Ends (take count slice ++ (number ∷ [])) false n' t
-      stops_at (got c rest) is size z l o = let p = call-place (drop at bs) c rest is in absurd (omega (arith, p.1))
-      stops_at cut_short is size z l o = stops (rw is tt) l.0 l.1 l.2
-      stops_at bad is size z l o = stops (rw is tt) l.0 l.1 l.2
-
-      pub goes_on : (read : ReadCall) → read_call (drop at bs) ≡ read → (size : ℕ) → size ≡ end_of (drop at bs) read → LeadsTo s n read number n' t → Few n' (count + 1) → (size ≡ 0 → ⊥) → count < length slice →
-          Going t n' (set slice count number) (count + 1) (at + size)
-      goes_on (got c rest) is size z l sums o room = rw z (goes c rest is l.0 l.1 l.2 sums room)
-      goes_on cut_short is size z l sums o room = absurd (o z)
-      goes_on bad is size z l sums o room = absurd (o z)
+          let w = one_more slice₀ slice count (take count slice) number g.front room in (
+            omega (arith, z, p.1),
+            rw z
+                (record {
+                  within = omega (arith, p.1);
+                  few = omega (arith, p.1, g.few);
+                  sums = sums;
+                  front = record { same = w.same; room = w.room; holds = refl; past = w.past };
+                  ends = λ u r.
+                      let x = g.ends (with_call c u) (read-call (drop at bs) rest c u is (subst (λ (b : Bytes). ReadAs b u) (sym (p.0 ∙ drop-drop (length (drop at bs) - length rest) at bs)) r)) in
+                      record {
+                        lines_are = rw (w.holds, append_assoc (take count slice) (number ∷ []), e, f) x.lines_are;
+                        whole_as = x.whole_as;
+                        totals_are = rw (m, f) (x.totals_are ∙ with_call_lem n s c (map single (map lent u.calls)));
+                        store_is = rw f x.store_is;
+                      };
+                }),
+          )
 
 -- ---- a trace over the limit
 

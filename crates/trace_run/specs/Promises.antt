@@ -30,21 +30,21 @@ number_said (says_refused n) = n
 
 abbrev pub number_of : Reply → ℕ
 number_of (Answered a) = number_said (heard a)
-number_of Entered = 0
+number_of (Entered whose) = 0
 
 -- how many numbers it lists
 abbrev pub numbers_listed : Reply → ℕ
 numbers_listed (Answered a) = numbers_said (heard a)
-numbers_listed Entered = 0
+numbers_listed (Entered whose) = 0
 
 -- the counts after it
 abbrev pub counted_by : Counts → Bool → Reply → List ℕ → Counts
 counted_by c evicts (Answered a) numbers = counted c evicts (heard a) numbers
-counted_by c evicts Entered numbers = c
+counted_by c evicts (Entered whose) numbers = c
 
 -- ---- the run
 
--- the end of a run: so many lines, whether the trace is whole, what the calls came to, and this store, in which what is held is counted
+-- the end of a run: how many lines, whether the trace is whole, what the calls came to, and this store, in which what is held is counted
 abbrev pub ended_with : ℕ → Bool → Counts → Quarantine → Ran
 ended_with lines whole c q =
     record {

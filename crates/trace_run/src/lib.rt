@@ -17,7 +17,7 @@ use trace_totals::{Counts, Totals};
 // How many bytes a trace may have.
 pub const MOST_BYTES: usize = 65536;
 
-// How many lines it comes to at most: a call has ten bytes or more, and a 19 may come behind the calls.
+// How many lines it comes to at most: a call has ten bytes or more, and a 19 may come after the calls.
 pub const MOST_LINES: usize = 6554;
 
 // How many lines there are, whether the trace is whole, so that none of them is a 19, the totals of the calls that were made, and the
@@ -30,18 +30,13 @@ pub struct Ran {
     pub store: Quarantine,
 }
 
-// The number of a refusal, or 0.
-fn number_said(answer: Answer) -> u64
+// The number of an answer: that of its refusal, or 0.
+fn number_said(answer: Result<Answer, Refusal>) -> u64
     ensures { result ≡ number_said (heard answer) }
 {
     match answer {
-        Answer::Total(_) => 0,
-        Answer::Rows(_) => 0,
-        Answer::ShortRows(_) => 0,
-        Answer::Recorded => 0,
-        Answer::Frames(_) => 0,
-        Answer::Dead(_) => 0,
-        Answer::Refused(x) => refusal::number(x),
+        Ok(_) => 0,
+        Err(x) => refusal::number(x),
     }
 }
 
@@ -51,7 +46,7 @@ fn number_of(reply: Reply) -> u64
 {
     match reply {
         Reply::Answered(answer) => number_said(answer),
-        Reply::Entered => 0,
+        Reply::Entered(_) => 0,
     }
 }
 
@@ -62,7 +57,7 @@ fn counts_after(c: Counts, evicts: bool, reply: Reply, numbers: &[u64]) -> Count
 {
     match reply {
         Reply::Answered(answer) => trace_totals::count(c, evicts, answer, numbers),
-        Reply::Entered => c,
+        Reply::Entered(_) => c,
     }
 }
 
@@ -71,8 +66,8 @@ fn ended(lines: usize, whole: bool, c: Counts, q: Quarantine) -> Ran
     ensures { result ≡ ended_with lines whole c q }
 {
     Ran {
-        lines: lines,
-        whole: whole,
+        lines,
+        whole,
         totals: trace_totals::with_held(c, q.len()),
         store: q,
     }
@@ -92,31 +87,29 @@ fn run_calls(trace: &[u8], lines: &mut [u64]) -> Ran
     requires { (length trace.now ≤ 65536) × (length lines.old ≡ 6554) }
     ensures { Runs trace.now lines.old result lines.new }
 {
-    let mut numbers = [0u64; 1216];
-    let mut hashes = [0u8; 4096];
+    let mut numbers = [0; 1216];
+    let mut hashes = [0; 4096];
     let mut q = Quarantine::new();
     let mut counts = trace_totals::none();
     let mut count = 0;
     let mut at = 0;
+    // By index: a call says how many bytes it takes, and they may be any number.
     while at < trace.len() {
         let made = trace_calls::make_call(q, &trace[at..], &mut numbers, &mut hashes);
-        let size = made.size;
-        let evicts = made.evicts;
-        let reply = made.reply;
-        let store = made.store;
-        lines[count] = number_of(reply);
-        counts = counts_after(counts, evicts, reply, &numbers);
+        q = made.store;
+        let Ok(called) = made.call else {
+            lines[count] = refusal::number(Refusal::BadTrace);
+            return ended(count + 1, false, counts, q);
+        };
+        lines[count] = number_of(called.reply);
+        counts = counts_after(counts, called.evicts, called.reply, &numbers);
         count += 1;
-        q = store;
-        if size == 0 {
-            return ended(count, false, counts, q);
-        }
-        at += size;
+        at += called.size;
     }
     ended(count, true, counts, q)
 }
 
-// Runs a trace from an empty store. A number for each call goes to the front of the lines, its refusal or 0; and 19 behind them where
+// Runs a trace from an empty store. A number for each call goes to the front of the lines, its refusal or 0; and 19 after them where
 // no call stands, or in place 0 if the trace is too long.
 pub fn run_trace(trace: &[u8], lines: &mut [u64; MOST_LINES]) -> Ran
     ensures { Runs trace.now lines.old result lines.new }

@@ -4,7 +4,7 @@ use native.Mathlib.Omega.{arith}
 use mathlib.Core.Path.{◌≡◌, refl, sym, ap}
 use mathlib.Core.Bool.{Bool, true, false, cond}
 use mathlib.Core.List.{List, [], ◌∷◌, ◌++◌, append_assoc}
-use mathlib.Core.Option.{Option, none, some}
+use Rattle.std.specs.Prelude.{Option, None, Some}
 use lib.Dec.{eqb}
 use lib.ListN.{length, drop}
 use lib.Seq.{take_at, drop_at}
@@ -67,8 +67,8 @@ unfolding said numbers_of rows_of
 said-numbers form (total n) h = refl
 said-numbers form (rows l) h = sym (rows-length form l h)
 said-numbers form recorded h = refl
-said-numbers form (entered (some w)) h = refl
-said-numbers form (entered none) h = refl
+said-numbers form (entered (Some w)) h = refl
+said-numbers form (entered None) h = refl
 said-numbers form (frames l) h = omega (arith, collect-length ticket_numbers 1 l (each_of _ l (λ f m. ticket-one f)))
 said-numbers form (dead l) h = sym (collect-length dead_numbers 3 l (each_of _ l (λ d m. dead-three d)))
 said-numbers form (refused n) h = refl
@@ -80,8 +80,8 @@ module _ (c : Counts) (form : RowForm) (slice : List ℕ) where
   answer-adds (total n) h = refl
   answer-adds (rows l) h = rw (rows-say form l (drop (length (collect (row_numbers form) l)) slice) h)
   answer-adds recorded h = refl
-  answer-adds (entered (some w)) h = refl
-  answer-adds (entered none) h = refl
+  answer-adds (entered (Some w)) h = refl
+  answer-adds (entered None) h = refl
   answer-adds (frames l) h = refl
   answer-adds (dead l) h = refl
   answer-adds (refused n) h = refl
@@ -96,8 +96,8 @@ module _ (c : Counts) (form : RowForm) (slice : List ℕ) where
   done-adds o s (enter_tentative x t) h = answer-adds (unless o s (effect s (enter_tentative x t))).1 h
   done-adds o s (check_reorg b canonical) h = answer-adds (unless o s (effect s (check_reorg b canonical))).1 h
   done-adds o s (check_finalized n) h = answer-adds (unless o s (effect s (check_finalized n))).1 h
-  done-adds none s (evict_sender a) h = refl
-  done-adds (some n) s (evict_sender a) h = refl
+  done-adds None s (evict_sender a) h = refl
+  done-adds (Some n) s (evict_sender a) h = refl
 
 -- ---- a call
 

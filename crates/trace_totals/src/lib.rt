@@ -6,6 +6,7 @@ ghost use Rattle.answers.specs.Promises.{heard};
 ghost use Rattle.trace_totals.specs.Counting.{zero, with_held, rescue_rows, plus, Below, numbers_said, counted};
 
 use answers::Answer;
+use refusal::Refusal;
 
 // How many frames pushes have accepted, and how many polls have rescued, finality has ended and evictions have taken out.
 #[derive(Clone, Copy)]
@@ -38,7 +39,7 @@ pub fn none() -> Counts
     }
 }
 
-// The counts with so many more of each.
+// The counts with these added.
 fn added(c: Counts, accepted: usize, rescued: usize, dead: usize, evicted: usize) -> Counts
     requires { Below c (accepted + rescued + dead + evicted) }
     ensures { result ≡ plus c accepted rescued dead evicted }
@@ -51,51 +52,44 @@ fn added(c: Counts, accepted: usize, rescued: usize, dead: usize, evicted: usize
     }
 }
 
-// How many of the first rows of a slice say Rescue, each row of so many numbers: the second is document 01's number of the decision.
+// How many of the first rows of a slice say Rescue, each row of `width` numbers: the second is document 01's number of the decision.
 fn rescue_rows(rows: &[u64], width: usize, n: usize) -> usize
     requires { (2 ≤ width) × (width * n ≤ length rows.now) }
     ensures { (result ≡ rescue_rows width n rows.now) × (result ≤ n) }
 {
     let mut count = 0;
-    let mut i = 0;
-    while i < n {
+    for i in 0..n {
         if rows[width * i + 1] == 1 {
             count += 1;
         }
-        i += 1;
     }
     count
 }
 
 // The counts after an answer, whose rows are at the front of the slice. The frames that it lists have left if the call is an eviction.
-pub fn count(c: Counts, evicts: bool, answer: Answer, rows: &[u64]) -> Counts
+#[tactic(auto, unfolding(store_rules::specs::Store::row_width))]
+pub fn count(c: Counts, evicts: bool, answer: Result<Answer, Refusal>, rows: &[u64]) -> Counts
     requires { (numbers_said (heard answer) ≤ length rows.now) × Below c (1 + length rows.now) }
     ensures { result ≡ counted c evicts (heard answer) rows.now }
 {
     match answer {
-        Answer::Total(_) => added(c, 1, 0, 0, 0),
-        Answer::Rows(n) => added(c, 0, rescue_rows(rows, 19, n), 0, 0),
-        Answer::ShortRows(n) => added(c, 0, rescue_rows(rows, 5, n), 0, 0),
-        Answer::Recorded => added(c, 0, 0, 0, 0),
-        Answer::Frames(n) => {
-            if evicts {
-                added(c, 0, 0, 0, n)
-            } else {
-                added(c, 0, 0, 0, 0)
-            }
-        }
-        Answer::Dead(n) => added(c, 0, 0, n, 0),
-        Answer::Refused(_) => added(c, 0, 0, 0, 0),
+        Ok(Answer::Total(_)) => added(c, 1, 0, 0, 0),
+        Ok(Answer::Rows(n)) => added(c, 0, rescue_rows(rows, 19, n), 0, 0),
+        Ok(Answer::ShortRows(n)) => added(c, 0, rescue_rows(rows, 5, n), 0, 0),
+        Ok(Answer::Frames(n)) if evicts => added(c, 0, 0, 0, n),
+        Ok(Answer::Dead(n)) => added(c, 0, 0, n, 0),
+        Ok(Answer::Recorded | Answer::Frames(_)) => added(c, 0, 0, 0, 0),
+        Err(_) => added(c, 0, 0, 0, 0),
     }
 }
 
-// The totals at the end, where so many frames are held.
+// The totals at the end, where `held` frames are held.
 pub fn with_held(c: Counts, held: usize) -> Totals
     ensures { result ≡ with_held c held }
 {
     Totals {
         accepted: c.accepted,
-        held: held,
+        held,
         rescued: c.rescued,
         dead: c.dead,
         evicted: c.evicted,

@@ -4,7 +4,7 @@ use native.Mathlib.Omega.{arith}
 use mathlib.Core.Path.{◌≡◌, refl}
 use mathlib.Core.Bool.{Bool, true, false, cond}
 use mathlib.Core.List.{[], ◌∷◌}
-use mathlib.Core.Option.{some}
+use Rattle.std.specs.Prelude.{Some}
 use lib.Dec.{ltb}
 use lib.ListN.{length}
 use borrow.Author.Tests.{ltb-true, ltb-false, lt-ltb, le-ltb, le-leb, lt-leb, eq-eqb}
@@ -101,6 +101,6 @@ module _ (h : Bytes) (long : length h ≡ 32) (s : Each IsByte h) where
       let e = length-hex_text h in
       rw (unprefixed-canonical h, eq-eqb (length (hex_text h)) 64 (omega arith)) (hex-hex_text h s)
 
-  pub parse_hash-canonical : parse_hash (canonical h) ≡ some h
+  pub parse_hash-canonical : parse_hash (canonical h) ≡ Some h
   unfolding parse_hash
   parse_hash-canonical = rw (parses-canonical, unprefixed-canonical h, from_hex-hex_text h s)

@@ -1,6 +1,6 @@
 -- Hashes as text: which texts parse, to what, and the canonical text.
 use Rattle.std.specs.Prelude.{ℕ, ◌+◌, ◌*◌, ◌-◌, ◌/◌, ◌%◌, Bool, true, ◌&&◌, cond, [], ◌∷◌, eqb, leb, ltb, length, take, drop}
-use Rattle.std.proofs.Math.Option.{Option, none, some}
+use Rattle.std.specs.Prelude.{Option, None, Some}
 use Rattle.lists.specs.Bytes.{Bytes, eq_bytes}
 use Rattle.lists.specs.Lists.{numbers_from}
 
@@ -58,4 +58,4 @@ unfoldable pub parses : Bytes → Bool
 parses t = eqb (length (unprefixed t)) 64 && all_hex (unprefixed t)
 
 unfoldable pub parse_hash : Bytes → Option Bytes
-parse_hash t = cond (parses t) (some (from_hex (unprefixed t))) none
+parse_hash t = cond (parses t) (Some (from_hex (unprefixed t))) None

@@ -1,6 +1,6 @@
 -- What the examples speak of: the frame F, calls with slices long enough, and small journals.
 use Rattle.std.specs.Prelude.{ℕ, true, List, [], ◌∷◌, ◌++◌, map, length, replicate}
-use Rattle.std.proofs.Math.Option.{Option, none, some}
+use Rattle.std.specs.Prelude.{Option, None, Some}
 use Rattle.lists.specs.Bytes.{Bytes}
 use Rattle.wire.specs.Numbers.{digits}
 use Rattle.store_rules.specs.Frames.{Frame, Consumed, mined, reparked, Decision, Row}
@@ -52,10 +52,10 @@ row f decision nonces = record { frame = f; decision = decision; nonces = nonces
 
 -- a poll with no content, and one with these pairs
 unfoldable pub polled : ℕ → List ℕ → Call
-polled head known = poll address head known none
+polled head known = poll address head known None
 
 unfoldable pub polled_with : ℕ → List ℕ → List ℕ → Bytes → Call
-polled_with head known nonces hashes = poll address head known (some (record { nonces = nonces; hashes = hashes }))
+polled_with head known nonces hashes = poll address head known (Some (record { nonces = nonces; hashes = hashes }))
 
 -- Reparked(predecessors; h; 5)
 unfoldable pub repark : List ℕ → Call
@@ -77,8 +77,8 @@ pending_in (folded s end) = s.pending
 pending_in (refused n at) = []
 
 unfoldable pub counts_in : Outcome → Option Counts
-counts_in (folded s end) = some s.counts
-counts_in (refused n at) = none
+counts_in (folded s end) = Some s.counts
+counts_in (refused n at) = None
 
 -- 0x, a capital A, and 63 small ones
 unfoldable pub capital_text : Bytes
@@ -93,8 +93,8 @@ park_with fidelity text =
     record {
       version = 2;
       text = text;
-      from = some (replicate 20 1);
-      sender = some (replicate 20 2);
+      from = Some (replicate 20 1);
+      sender = Some (replicate 20 2);
       chain_id = 1;
       gas = 21000;
       wire = true;
@@ -103,7 +103,7 @@ park_with fidelity text =
       expected = 5;
       parked_at = 0;
       fidelity = fidelity;
-      tentative = none;
+      tentative = None;
       ticket = 3;
     }
 

@@ -1,7 +1,7 @@
 -- Request 2027-03: the short rows of polls of F, and what is read from a mark.
 use Rattle.std.specs.Prelude.{ℕ, ◌-◌, ◌^◌, ◌≡◌}
-use mathlib.Core.List.{List, [], ◌∷◌, head?}
-use Rattle.std.proofs.Math.Option.{none, some}
+use mathlib.Core.List.{List, [], ◌∷◌}
+use Rattle.std.specs.Prelude.{None, Some, slice_get}
 use Rattle.short_rows.specs.Reading.{nonces_read}
 use Rattle.store_rules.specs.Store.{Call, push, short, Answer, refused, step}
 use Rattle.store_rules.specs.Answers.{numbers_of}
@@ -28,7 +28,7 @@ pub record ShortRows : Type 0 where
   pub four_numbers : short_answer 4 (polled 9 []) ≡ refused 5
   -- read back from expected nonce and mark
   pub nonces : nonces_read 5 6 ≡ 6 ∷ 7 ∷ []
-  pub first : head? (nonces_read 5 6) ≡ some 6
-  pub no_first : head? (nonces_read 5 0) ≡ none
+  pub first : slice_get (nonces_read 5 6) 0 ≡ Some 6
+  pub no_first : slice_get (nonces_read 5 0) 0 ≡ None
   -- a bit past the last nonce stands for none
   pub past_last : nonces_read (2 ^ 64 - 1) 3 ≡ (2 ^ 64 - 1) ∷ []

@@ -1,6 +1,6 @@
 -- Document 01's thirteen starred examples, as one claim.
 use Rattle.std.specs.Prelude.{ℕ, ◌≡◌, [], ◌∷◌, ◌++◌, map, length}
-use Rattle.std.proofs.Math.Option.{none, some}
+use Rattle.std.specs.Prelude.{None, Some}
 use Rattle.lists.specs.Bytes.{Bytes}
 use Rattle.store_rules.specs.Frames.{rescue, nonce_consumed, still_waiting}
 use Rattle.store_rules.specs.Store.{push, check_reorg, check_finalized, rows, frames, dead}
@@ -41,12 +41,12 @@ pub record Starred : Type 0 where
       × (held (push frame_f ∷ enter_at100 ∷ check_finalized 100 ∷ []) ≡ 0)
   -- reorg 100: equal hash none, no hash revived
   pub reorganisation :
-      (answer (push frame_f ∷ enter_at100 ∷ []) (check_reorg 100 (some h)) ≡ frames [])
-      × (answer (push frame_f ∷ enter_at100 ∷ []) (check_reorg 100 none) ≡ frames (frame_f ∷ []))
+      (answer (push frame_f ∷ enter_at100 ∷ []) (check_reorg 100 (Some h)) ≡ frames [])
+      × (answer (push frame_f ∷ enter_at100 ∷ []) (check_reorg 100 None) ≡ frames (frame_f ∷ []))
   -- QP with a capital A in its text, then QR of that hash: pending 1
   pub capital_key : length (pending_in (fold (park_bytes (park_with full capital_text) ++ resolve_bytes capital_hash))) ≡ 1
   -- a QL of a frame hash and a top nonce alone is migrated and degraded, and expects the nonce that it claims
   pub bare_legacy :
-      (counts_in (fold (legacy_bytes capital_hash 8)) ≡ some (record { skipped = 0; migrated = 1; degraded = 1 }))
+      (counts_in (fold (legacy_bytes capital_hash 8)) ≡ Some (record { skipped = 0; migrated = 1; degraded = 1 }))
       × (map (λ p. p.expected) (pending_in (fold (legacy_bytes capital_hash 8))) ≡ 8 ∷ [])
       × (map (λ p. p.claimed) (pending_in (fold (legacy_bytes capital_hash 8))) ≡ 8 ∷ [])

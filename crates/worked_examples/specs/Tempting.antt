@@ -1,6 +1,6 @@
 -- The readings that document 01 calls tempting and wrong: for each, an input on which it would answer something else.
 use Rattle.std.specs.Prelude.{◌≡◌, [], ◌∷◌, ◌++◌, map, replicate}
-use Rattle.std.proofs.Math.Option.{some}
+use Rattle.std.specs.Prelude.{Some}
 use Rattle.wire.specs.HashText.{canonical}
 use Rattle.store_rules.specs.Frames.{rescue}
 use Rattle.store_rules.specs.Store.{push, rows}
@@ -14,7 +14,7 @@ pub record Tempting : Type 0 where
   pub consume_at_claim : answer (push frame_f ∷ []) (polled 8 []) ≡ rows (row frame_f rescue [])
   -- counting a degraded QP in degraded would answer 1
   pub count_degraded_park :
-      counts_in (fold (park_bytes (park_with degraded capital_text))) ≡ some (record { skipped = 0; migrated = 0; degraded = 0 })
+      counts_in (fold (park_bytes (park_with degraded capital_text))) ≡ Some (record { skipped = 0; migrated = 0; degraded = 0 })
   -- parsing the key before lookup would leave none
   pub parse_key : map (λ p. p.text) (pending_in (fold (park_bytes (park_with full capital_text) ++ resolve_bytes capital_hash))) ≡ capital_text ∷ []
   -- searching all current pairs would find (7, h) behind another pair of nonce 7, and answer StillWaiting

@@ -1,23 +1,10 @@
-use mathlib.Core.Path.{ap, sym, ◌∙◌}
-use lib.Seq.{take_all, length-take-le}
-use Rattle.console.specs.Waiting.{waits, all_behind}
-use Rattle.fold_output.specs.Lines.{journal_line}
+use mathlib.Core.Path.{ap, ◌∙◌}
+use native.Mathlib.Omega.{arith}
+use Rattle.console.specs.Waiting.{all_behind}
 use Rattle.fold_output.proofs.Printing.{printed}
-use borrow.Author.Rules.{rules}
 use Rattle.fold_output.proofs.put_fold.Goals as goal
-
-pub returns-then-n-gt-READ : goal.returns-then-n-gt-READ
-returns-then-n-gt-READ c =
-    let a = c.args in
-    c.put_journal.ensures
-    ∙ ap (all_behind (waits a.out.now)) (ap journal_line (sym (take_all a.n a.read.now (search rules))) ∙ printed a.n a.read.now (search rules))
-
-pub slice_bounds-put_journal-end-2 : goal.slice_bounds-put_journal-end-2
-slice_bounds-put_journal-end-2 c =
-    let a = c.args in
-    sym (length-take-le a.n a.read.now (search rules))
 
 pub returns : goal.returns
 returns c =
     let a = c.args in
-    c.put_journal-2.ensures ∙ ap (all_behind (waits a.out.now)) (printed a.n a.read.now (search rules))
+    c.put_journal.ensures ∙ ap (all_behind a.out.now) (printed a.n c.min.result a.read.now (omega arith) (omega arith))

@@ -1,6 +1,6 @@
+use mathlib.Core.Path.{◌∙◌}
 use Rattle.guards.proofs.Holding.{is-guarded}
 use Rattle.guards.proofs.has_guard.Goals as goal
 
 pub returns : goal.returns
-returns c =
-    is-guarded _ _ _ _ _ c.clamped.ensures c.find_guard.ensures
+returns c bodies = c.is_some.ensures ∙ is-guarded c.args.hash c.args.h.now.guards c.args.h.now.labels bodies _ c.find_guard.ensures

@@ -1,10 +1,7 @@
-use Prim.Native.Nat.{◌-◌}
-use Rattle.store_rules.specs.View.{bodies_of, labels_of}
+use Rattle.store_rules.specs.View.{labels_of}
+use Rattle.guards.specs.Recording.{bodies_in}
 use Rattle.guards.proofs.Turns.{Moving}
 use Rattle.guards.proofs.move_up.Given as goal
 
-abbrev pub invariant-loop-i : goal.invariant-loop-i
-invariant-loop-i l = Moving l.len (labels_of l.initial.labels) (bodies_of l.initial.numbers l.initial.contents) (labels_of l.labels) (bodies_of l.numbers l.contents) l.w l.i
-
-abbrev pub decreases-loop-i : goal.decreases-loop-i
-decreases-loop-i l = l.len - l.i
+abbrev pub invariant-loop-k : goal.invariant-loop-k
+invariant-loop-k l = Moving l.len (labels_of l.initial.labels) (bodies_in l.initial.bodies) (labels_of l.labels) (bodies_in l.bodies) l.w l.k

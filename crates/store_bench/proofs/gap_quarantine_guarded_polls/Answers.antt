@@ -1,18 +1,13 @@
-use mathlib.Core.Path.{◌∙◌}
+use mathlib.Core.Path.{◌≡◌}
 use native.Mathlib.Omega.{arith}
-use Rattle.store_bench.proofs.Computed.{computed}
-use Rattle.store_bench.proofs.Performing.{leads, seen}
-use Rattle.store_bench.proofs.Rounds.{fits, next, start, done}
+use Rattle.guards.specs.Recording.{bodies_in}
+use Rattle.store_rules.specs.View.{held_view}
+use Rattle.store_bench.specs.Loads.{guarded_by}
+use Rattle.store_bench.proofs.Calls.{each_round, few_a_round}
 use Rattle.store_bench.proofs.gap_quarantine_guarded_polls.Goals as goal
 
-pub loop-i-init : goal.loop-i-init
-loop-i-init c = (start, c.guarded_store-h.ensures)
-
-pub overflow_add-seen : goal.overflow_add-seen
-overflow_add-seen c = omega (arith, fits (omega arith) c.loop-i.invariant.0 c.loop-i-test.true (c.counted-seen.ensures ∙ seen _ c.poll_with_content-r.ensures c.loop-i.invariant.1 computed.guarded-polled) (omega arith))
-
-pub loop-i-preserved : goal.loop-i-preserved
-loop-i-preserved c = (next (omega arith) c.loop-i.invariant.0 c.loop-i-test.true (c.counted-seen.ensures ∙ seen _ c.poll_with_content-r.ensures c.loop-i.invariant.1 computed.guarded-polled), leads _ c.poll_with_content-r.ensures c.loop-i.invariant.1 computed.guarded-polled)
+pub told_in_all-requires-clause-few : goal.told_in_all-requires-clause-few
+told_in_all-requires-clause-few c = few_a_round _ {n = 8} (λ f. held_view (bodies_in f.1.now) f.0.now ≡ guarded_by 8) (λ f a r f' k i. ((k.met.1 i).0, rw k.met.0.1 (k.met.1 i).1)) c.guarded_store-h.ensures (omega arith)
 
 pub returns : goal.returns
-returns c = done c.loop-i.invariant.0 c.loop-i-test.false c.capped-limit.ensures
+returns c = c.told_in_all.ensures 8 (each_round _ (λ f. held_view (bodies_in f.1.now) f.0.now ≡ guarded_by 8) (λ f a r f' k i. ((k.met.1 i).0, rw k.met.0.1 (k.met.1 i).1)) c.guarded_store-h.ensures)

@@ -1,18 +1,11 @@
-use mathlib.Core.Path.{◌∙◌}
+use mathlib.Core.Path.{◌≡◌}
 use native.Mathlib.Omega.{arith}
-use Rattle.store_bench.proofs.Computed.{computed}
-use Rattle.store_bench.proofs.Performing.{leads, seen}
-use Rattle.store_bench.proofs.Rounds.{fits, next, start, done}
+use Rattle.store_bench.specs.Loads.{alone, pushed}
+use Rattle.store_bench.proofs.Calls.{each_round, few_a_round}
 use Rattle.store_bench.proofs.gap_quarantine_polls.Goals as goal
 
-pub loop-i-init : goal.loop-i-init
-loop-i-init c = (start, c.store_of-h.ensures _)
-
-pub overflow_add-seen : goal.overflow_add-seen
-overflow_add-seen c = omega (arith, fits (omega arith) c.loop-i.invariant.0 c.loop-i-test.true (c.counted-seen.ensures ∙ seen _ (c.poll-r.ensures _) c.loop-i.invariant.1 computed.polled) (omega arith))
-
-pub loop-i-preserved : goal.loop-i-preserved
-loop-i-preserved c = (next (omega arith) c.loop-i.invariant.0 c.loop-i-test.true (c.counted-seen.ensures ∙ seen _ (c.poll-r.ensures _) c.loop-i.invariant.1 computed.polled), leads _ (c.poll-r.ensures _) c.loop-i.invariant.1 computed.polled)
+pub told_in_all-requires-clause-few : goal.told_in_all-requires-clause-few
+told_in_all-requires-clause-few c = few_a_round _ {n = 8} (λ f. alone f.0.now ≡ pushed 8) (λ f a r f' k. k.met.1) (c.store_of-h.ensures _) (omega arith)
 
 pub returns : goal.returns
-returns c = done c.loop-i.invariant.0 c.loop-i-test.false c.capped-limit.ensures
+returns c = c.told_in_all.ensures 8 (each_round _ (λ f. alone f.0.now ≡ pushed 8) (λ f a r f' k. k.met.1) (c.store_of-h.ensures _))

@@ -1,24 +1,11 @@
-use mathlib.Core.Path.{◌≡◌, ap, ◌∙◌}
+use mathlib.Core.Path.{◌≡◌}
 use native.Mathlib.Omega.{arith}
-use Rattle.store_bench.specs.Loads.{no_bodies, counted}
-use Rattle.store_bench.proofs.Computed.{swept}
-use Rattle.store_bench.proofs.Rounds.{fits, next, start, done}
+use Rattle.store_bench.specs.Loads.{alone, lone, addresses}
+use Rattle.store_bench.proofs.Calls.{each_round, few_a_round}
 use Rattle.store_bench.proofs.gap_quarantine_sweeps.Goals as goal
 
-pub loop-i-init : goal.loop-i-init
-loop-i-init c = (start, c.lone_store-h.ensures _)
-
-pub overflow_add-seen : goal.overflow_add-seen
-overflow_add-seen c =
-    let l = c.loop-i in
-    let told : c.counted-seen.result ≡ 64 = c.counted-seen.ensures ∙ ap counted (c.sweep-r.ensures no_bodies).answer ∙ rw (l.invariant.1, c.addresses-senders.ensures) swept.seen in
-    omega (arith, fits (omega arith) l.invariant.0 c.loop-i-test.true told (omega arith))
-
-pub loop-i-preserved : goal.loop-i-preserved
-loop-i-preserved c =
-    let l = c.loop-i in
-    let told : c.counted-seen.result ≡ 64 = c.counted-seen.ensures ∙ ap counted (c.sweep-r.ensures no_bodies).answer ∙ rw (l.invariant.1, c.addresses-senders.ensures) swept.seen in
-    (next (omega arith) l.invariant.0 c.loop-i-test.true told, (c.sweep-r.ensures no_bodies).store ∙ rw (l.invariant.1, c.addresses-senders.ensures) swept.store)
+pub told_in_all-requires-clause-few : goal.told_in_all-requires-clause-few
+told_in_all-requires-clause-few c = few_a_round _ {n = 64} (λ f. (alone f.0.now ≡ lone 64) × (f.1.now ≡ addresses 64)) (λ f a r f' k i. ((k.met.1 i.1 i.0).0, ((k.met.1 i.1 i.0).1, rw k.met.0.1 i.1))) (c.lone_store-h.ensures _, c.addresses-senders.ensures) (omega arith)
 
 pub returns : goal.returns
-returns c = done c.loop-i.invariant.0 c.loop-i-test.false c.capped-limit.ensures
+returns c = c.told_in_all.ensures 64 (each_round _ (λ f. (alone f.0.now ≡ lone 64) × (f.1.now ≡ addresses 64)) (λ f a r f' k i. ((k.met.1 i.1 i.0).0, ((k.met.1 i.1 i.0).1, rw k.met.0.1 i.1))) (c.lone_store-h.ensures _, c.addresses-senders.ensures))

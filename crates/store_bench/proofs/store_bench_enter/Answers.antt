@@ -1,9 +1,11 @@
+use mathlib.Core.Path.{◌∙◌}
 use native.Mathlib.Omega.{arith}
+use Rattle.store_bench.proofs.Calls.{each_call, few_a_call}
 use Rattle.store_bench.proofs.Computed.{at_size}
 use Rattle.store_bench.proofs.store_bench_enter.Goals as goal
 
-pub repeated-requires : goal.repeated-requires
-repeated-requires c = rw (c.store_of.ensures, c.sized.ensures, (at_size _).enters) (omega arith)
+pub told_in_all-requires-clause-few : goal.told_in_all-requires-clause-few
+told_in_all-requires-clause-few c = few_a_call _ {n = 1} (λ a r f' k. (k.met.0 ∙ rw (c.store_of-h.ensures, c.sized.ensures, (at_size _).enters), k.met.1)) (omega arith)
 
 pub returns : goal.returns
-returns c = omega (arith, rw (c.store_of.ensures, c.sized.ensures, (at_size _).enters) at c.repeated.ensures)
+returns c = omega (arith, c.told_in_all.ensures 1 (each_call _ (λ a r f' k. (k.met.0 ∙ rw (c.store_of-h.ensures, c.sized.ensures, (at_size _).enters), k.met.1))))

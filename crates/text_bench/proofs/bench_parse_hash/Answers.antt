@@ -1,15 +1,13 @@
-use borrow.Author.Tests.{not-true, not-false}
-use Rattle.text_bench.proofs.Reading.{read_as}
+use mathlib.Core.Path.{ap, sym, ◌∙◌}
+use Rattle.std.specs.Prelude.{None, Some}
+use Rattle.std.specs.Option.{unwrap_or}
+use Rattle.text_bench.proofs.Reading.{is-read}
 use Rattle.text_bench.proofs.bench_parse_hash.Goals as goal
 
-pub returns-then-not-parsed : goal.returns-then-not-parsed
-returns-then-not-parsed c =
-    let p = c.parse_hash-parsed in
-    let a = c.args in
-    rw (not-true p.result.parses c.if-not-parsed.true) at (read_as p.result.parses p.result.hash a.text.now a.hash.now p.ensures)
+pub returns-in_default : goal.returns-in_default
+returns-in_default c =
+    let none = sym c.in_default.is ∙ c.parse_hash.ensures in
+    (is-read None c.args.text.now none, ap (λ o. unwrap_or o c.args.hash.now) none)
 
 pub returns : goal.returns
-returns c =
-    let p = c.parse_hash-parsed in
-    let a = c.args in
-    rw (not-false p.result.parses c.if-not-parsed.false) at (read_as p.result.parses p.result.hash a.text.now a.hash.now p.ensures)
+returns c = (is-read (Some c.in-Some.parsed) c.args.text.now c.in-Some.ensures, ap (λ o. unwrap_or o c.args.hash.now) c.in-Some.ensures)

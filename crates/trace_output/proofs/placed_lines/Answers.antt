@@ -1,14 +1,14 @@
 use native.Mathlib.Omega.{arith}
-use mathlib.Core.Path.{refl, sym, ◌∙◌}
-use Rattle.console.specs.Waiting.{waits}
+use mathlib.Core.Path.{sym, ◌∙◌}
 use Rattle.trace_output.proofs.Printing.{line-turn, line-done}
 use Rattle.trace_output.proofs.placed_lines.Goals as goal
 
-pub loop-i-init : goal.loop-i-init
-loop-i-init c = (omega arith, refl)
-
-pub loop-i-preserved : goal.loop-i-preserved
-loop-i-preserved c = (omega arith, line-turn c.args.lines.now (waits c.loop-i.out) _ c.loop-i.i (omega arith) c.placed_line.ensures ∙ c.loop-i.invariant.1)
+pub loop-place-preserved : goal.loop-place-preserved
+loop-place-preserved c =
+    let l = c.loop-place in
+    line-turn c.args.lines.now l.out _ l.place (omega arith) c.placed_line.ensures ∙ l.invariant
 
 pub returns : goal.returns
-returns c = sym (line-done c.args.lines.now (waits c.loop-i.out) c.loop-i.i (omega arith)) ∙ c.loop-i.invariant.1
+returns c =
+    let l = c.loop-place in
+    sym (line-done c.args.lines.now l.out l.place (omega arith)) ∙ l.invariant

@@ -1,28 +1,20 @@
-use mathlib.Core.Path.{ap, sym, ◌∙◌}
-use lib.Seq.{length-take-le}
-use Rattle.console.specs.Waiting.{waits, all_behind}
-use Rattle.trace_format.specs.Traces.{read_trace}
-use Rattle.trace_run.proofs.Running.{ran-within}
+use mathlib.Core.Path.{◌≡◌, ap, sym, ◌∙◌}
+use Rattle.console.specs.Waiting.{all_behind}
+use Rattle.trace_format.specs.Traces.{read_trace, lines}
 use Rattle.trace_output.specs.Lines.{placed_lines}
 use Rattle.trace_output.proofs.Printing.{ran-lines, without-totals, with-totals}
 use Rattle.trace_output.proofs.put_lines.Goals as goal
+use Rattle.trace_output.proofs.put_lines.Goals.{After-placed_lines}
 
-pub slice_bounds-lines-end : goal.slice_bounds-lines-end
-slice_bounds-lines-end c = ran-within _ _ _ _ c.run_trace-ran.ensures
+-- the line of each call was put
+put : (c : After-placed_lines) → c.placed_lines.new.out ≡ all_behind c.args.out.now (placed_lines 0 (lines (read_trace c.args.trace.now)))
+put c = c.placed_lines.ensures ∙ ap (λ ns. all_behind c.args.out.now (placed_lines 0 ns)) (ran-lines _ _ _ _ c.run_trace-ran.ensures)
 
-pub slice_bounds-placed_lines-end : goal.slice_bounds-placed_lines-end
-slice_bounds-placed_lines-end c = sym (length-take-le _ _ (ran-within _ _ _ _ c.run_trace-ran.ensures))
+pub returns-then-whole : goal.returns-then-whole
+returns-then-whole c =
+    let ran = c.run_trace-ran.ensures in
+    with-totals _ _ _ (put (goal.at.returns-then-whole c).After-placed_lines) _ _ (sym ran.whole ∙ c.if-whole.true) ran.totals c.totals_line.ensures
 
-pub returns-then-not-whole : goal.returns-then-not-whole
-returns-then-not-whole c =
-    let t = read_trace c.args.trace.now in
-    let w = waits c.args.out.now in
-    let ran = c.run_trace-ran in
-    without-totals t w _ (c.placed_lines.ensures ∙ ap (λ ns. all_behind w (placed_lines 0 ns)) (ran-lines t _ _ _ ran.ensures)) (sym ran.ensures.whole ∙ c.if-not-whole.true)
-
-pub returns : goal.returns
-returns c =
-    let t = read_trace c.args.trace.now in
-    let w = waits c.args.out.now in
-    let ran = c.run_trace-ran in
-    with-totals t w _ (c.placed_lines.ensures ∙ ap (λ ns. all_behind w (placed_lines 0 ns)) (ran-lines t _ _ _ ran.ensures)) _ _ (sym ran.ensures.whole ∙ c.if-not-whole.false) ran.ensures.totals c.totals_line.ensures
+pub returns-else-whole : goal.returns-else-whole
+returns-else-whole c =
+    without-totals _ _ _ (put (goal.at.returns-else-whole c).After-placed_lines) (sym c.run_trace-ran.ensures.whole ∙ c.if-whole.false)

@@ -1,5 +1,4 @@
 use native.Mathlib.Omega.{arith}
-use mathlib.Core.Path.{◌∙◌}
 use Rattle.trace_parts.specs.Parts.{list_end}
 use Rattle.trace_parts.proofs.Lists.{ends-out, ends-in}
 use Rattle.trace_parts.proofs.list_end.Goals as goal
@@ -14,4 +13,4 @@ pub returns-then-bytes-from : goal.returns-then-bytes-from
 returns-then-bytes-from c = let a = c.args in ends-out a.bytes.now (list_end a.width a.at a.bytes.now) (grind arith)
 
 pub returns : goal.returns
-returns c = let a = c.args in (grind arith) ∙ ends-in a.bytes.now (list_end a.width a.at a.bytes.now) (grind arith)
+returns c = let a = c.args in ends-in a.bytes.now (list_end a.width a.at a.bytes.now) _ (grind arith) (grind arith)

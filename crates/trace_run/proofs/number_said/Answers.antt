@@ -1,4 +1,5 @@
+use Rattle.trace_run.proofs.Calling.{ok-number}
 use Rattle.trace_run.proofs.number_said.Goals as goal
 
-pub returns-in-Refused : goal.returns-in-Refused
-returns-in-Refused c = rw c.in-Refused.is c.number.ensures
+pub returns-in-Ok : goal.returns-in-Ok
+returns-in-Ok c = rw c.in-Ok.is (ok-number c.in-Ok.field-0)

@@ -1,33 +1,30 @@
-use native.Mathlib.Nat.{add-zero, sub-zero}
-use mathlib.Core.Path.{sym, ◌∙◌}
-use Rattle.store_rules.specs.Poll.{gap, predecessors, unknown}
-use Rattle.decisions.proofs.Gathering.{found-unknown, passed-known, passed-below, none-unknown}
-use borrow.Author.Rules.{rules}
+use native.Mathlib.Omega.{arith}
+use mathlib.Core.Path.{ap, ◌∙◌}
+use mathlib.Core.Bool.{not}
+use Rattle.lists.specs.Lists.{is_empty, is_in}
+use Rattle.store_rules.specs.Poll.{unknown}
+use Rattle.store_rules.specs.View.{frame_of}
+use Rattle.decisions.proofs.Gathering.{end_of, preds-are, left-hit, left-miss, left-none}
 use Rattle.decisions.proofs.poll.any_unknown.Goals as goal
 
-pub loop-i-init : goal.loop-i-init
-loop-i-init c = (search rules, search rules, rw (add-zero, sub-zero))
+pub loop-n-init : goal.loop-n-init
+unfolding unknown
+loop-n-init c = let a = c.args in rw (c.max-n.ensures, preds-are a.poll.now.head (frame_of a.frame))
 
 pub returns-then-not-is_in : goal.returns-then-not-is_in
-unfolding gap predecessors unknown
 returns-then-not-is_in c =
-    let h = c.loop-i in
-    let e = c.gap_count-m in
-    rw (← e.ensures, found-unknown _ c.args.known.now _ _ h.i c.loop-i-test.true h.invariant.2 c.if-head-n.true (sym c.is_in.ensures ∙ c.if-not-is_in.true))
+    let a = c.args in
+    let l = c.loop-n in
+    rw (l.invariant, left-hit (λ k. not (is_in k a.poll.now.known.now)) l.n (end_of (frame_of a.frame)) (omega (arith, c.gap_end-n-end.ensures)) (rw (← c.if-not-is_in.ensures)))
 
-pub loop-i-preserved-else-not-is_in : goal.loop-i-preserved-else-not-is_in
-loop-i-preserved-else-not-is_in c =
-    let h = c.loop-i in
-    (search rules, search rules, passed-known _ c.args.known.now _ _ h.i c.loop-i-test.true h.invariant.2 c.if-head-n.true (sym c.is_in.ensures ∙ c.if-not-is_in.false))
-
-pub loop-i-preserved : goal.loop-i-preserved
-loop-i-preserved c =
-    let h = c.loop-i in
-    (search rules, search rules, passed-below _ c.args.known.now _ _ h.i c.loop-i-test.true h.invariant.2 c.if-head-n.false)
+pub loop-n-preserved : goal.loop-n-preserved
+loop-n-preserved c =
+    let a = c.args in
+    let l = c.loop-n in
+    l.invariant ∙ ap is_empty (left-miss (λ k. not (is_in k a.poll.now.known.now)) l.n (end_of (frame_of a.frame)) (omega (arith, c.gap_end-n-end.ensures)) (rw (← c.if-not-is_in.ensures)))
 
 pub returns : goal.returns
-unfolding gap predecessors unknown
 returns c =
-    let h = c.loop-i in
-    let e = c.gap_count-m in
-    rw (← e.ensures, none-unknown _ c.args.known.now _ _ h.i c.loop-i-test.false h.invariant.2)
+    let a = c.args in
+    let l = c.loop-n in
+    rw (l.invariant, left-none (λ k. not (is_in k a.poll.now.known.now)) l.n (end_of (frame_of a.frame)) (omega (arith, c.gap_end-n-end.ensures)))

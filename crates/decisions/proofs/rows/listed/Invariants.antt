@@ -1,12 +1,11 @@
-use Prim.Native.Nat.{◌-◌, ◌≤◌}
-use Rattle.lists.specs.Lists.{keep}
+use Prim.Native.Nat.{◌-◌, ◌≤◌, max}
 use Rattle.short_rows.proofs.Gathering.{Gathers}
+use Rattle.store_rules.specs.View.{frame_of}
 use Rattle.decisions.specs.Courses.{is_listed}
-use Rattle.decisions.proofs.Gathering.{preds_of}
+use Rattle.decisions.proofs.Gathering.{first_from, end_of, passing}
 use Rattle.decisions.proofs.rows.listed.Given as goal
 
-abbrev pub invariant-loop-i : goal.invariant-loop-i
-invariant-loop-i l = (l.i ≤ l.m) × (l.m ≤ 16) × Gathers l.at l.count l.i (keep (is_listed l.telling l.known) (preds_of l.head l.expected l.i))
-
-abbrev pub decreases-loop-i : goal.decreases-loop-i
-decreases-loop-i l = l.m - l.i
+abbrev pub invariant-loop-n : goal.invariant-loop-n
+invariant-loop-n l =
+    let a = first_from l.fn.poll.head (frame_of l.fn.frame) in
+    (l.n ≤ max a (end_of (frame_of l.fn.frame))) × Gathers l.at l.count (l.n - a) (passing (is_listed l.telling l.fn.poll.known.now) a l.n)

@@ -1,51 +1,58 @@
-use native.Mathlib.Nat.{sub-zero}
 use native.Mathlib.Omega.{arith}
-use mathlib.Core.Path.{◌≡◌, refl, ◌∙◌}
-use mathlib.Core.List.{[], ◌∷◌}
-use lib.Count.{ones-le}
-use lib.ListN.{length}
-use Rattle.lists.proofs.Writing.{length_at}
+use borrow.Author.Rules.{rules}
+use Rattle.lists.proofs.Compacting.{long}
+use Prim.Native.Nat.{◌≤◌}
+use mathlib.Core.Path.{◌≡◌, refl, ap, ◌∙◌}
+use lib.ListN.{length, length-take, length-drop, length-append}
 use Rattle.short_rows.proofs.Gathering.{lists-front}
 use Rattle.store_rules.specs.Store.{row_width}
 use Rattle.store_rules.specs.View.{frame_of}
-use Rattle.decisions.proofs.RowNumbers.{long-row, short_row}
-use borrow.Author.Rules.{rules}
+use Rattle.decisions.proofs.RowNumbers.{long-row, long-whole, short_row}
 use Rattle.decisions.proofs.rows.put_row.Goals as goal
 
-pub put_numbers-requires : goal.put_numbers-requires
+pub slice_bounds-copy_from_slice-end : goal.slice_bounds-copy_from_slice-end
 unfolding row_width
-put_numbers-requires c = omega (arith, rw c.in_default.is at c.requires)
+slice_bounds-copy_from_slice-end c = let room : 19 ≤ length c.args.rows.now = rw c.in-Long.is at c.requires in omega arith
 
-pub put_numbers-requires-in_default : goal.put_numbers-requires-in_default
+pub slice_bounds-copy_from_slice-end-in-Long : goal.slice_bounds-copy_from_slice-end-in-Long
 unfolding row_width
-put_numbers-requires-in_default c =
-    let room = rw c.in_default.is at c.requires in
-    let n : length c.listed-nonces.result.at ≡ 16 = search rules in
-    let m = length_at c.args.at (c.args.frame.ticket ∷ c.decision_number-decision.result ∷ c.listed-nonces.result.count ∷ []) c.args.rows.now (omega (arith, room)) in
-    rw c.put_numbers.ensures (omega (arith, room, n, m))
+slice_bounds-copy_from_slice-end-in-Long c = let room : 19 ≤ length c.args.rows.now = rw c.in-Long.is at c.requires in simp length-take (omega arith)
 
-pub returns-in_default : goal.returns-in_default
+pub copy_from_slice-requires : goal.copy_from_slice-requires
 unfolding row_width
-returns-in_default c =
+copy_from_slice-requires c = let room : 19 ≤ length c.args.rows.now = rw c.in-Long.is at c.requires in simp length-take (omega arith)
+
+pub slice_bounds-copy_from_slice-end-in-Long-3 : goal.slice_bounds-copy_from_slice-end-in-Long-3
+unfolding row_width
+slice_bounds-copy_from_slice-end-in-Long-3 c =
+    let room : 19 ≤ length c.args.rows.now = rw c.in-Long.is at c.requires in
+    let front : length c.copy_from_slice.new.self ≡ 3 = ap length c.copy_from_slice.ensures.after in
+    simp (length-append, length-drop) (omega (arith, front))
+
+pub slice_bounds-copy_from_slice-end-in-Short : goal.slice_bounds-copy_from_slice-end-in-Short
+unfolding row_width
+slice_bounds-copy_from_slice-end-in-Short c = let room : 5 ≤ length c.args.rows.now = rw c.in-Short.is at c.requires in omega arith
+
+pub slice_bounds-copy_from_slice-end-in-Short-2 : goal.slice_bounds-copy_from_slice-end-in-Short-2
+unfolding row_width
+slice_bounds-copy_from_slice-end-in-Short-2 c = let room : 5 ≤ length c.args.rows.now = rw c.in-Short.is at c.requires in simp length-take (omega arith)
+
+pub copy_from_slice-requires-in-Short : goal.copy_from_slice-requires-in-Short
+unfolding row_width
+copy_from_slice-requires-in-Short c = let room : 5 ≤ length c.args.rows.now = rw c.in-Short.is at c.requires in simp length-take (omega arith)
+
+pub returns-in-Long : goal.returns-in-Long
+returns-in-Long c =
     let s = c.args in
-    let f = c.in_default.is in
     let d = c.decision_number-decision in
     let l = c.listed-nonces in
-    let room = rw f at c.requires in
-    rw f (long-row s.telling s.head s.known.now (frame_of s.frame) s.at d.result s.rows.now d.ensures l.result.count l.result.at _ _ l.ensures.count l.ensures.at (omega (arith, room)) c.put_numbers.ensures c.put_numbers-in_default.ensures)
+    let sixteen : length l.result.at ≡ 16 = search (rules, long) in
+    rw (c.in-Long.is, c.copy_from_slice.ensures.after, c.copy_from_slice-in-Long.ensures.after, ← long-row s.telling s.poll.now.head s.poll.now.known.now (frame_of s.frame) d.result d.ensures l.result.count l.result.at l.ensures.count l.ensures.at)
+    (long-whole s.frame.ticket d.result l.result.count l.result.at s.rows.now sixteen)
 
-pub overflow_cast-row-2 : goal.overflow_cast-row-2
-overflow_cast-row-2 c = omega (arith, ones-le 16 c.mark_of-mark.result c.mark_of-mark.type_inv)
-
-pub put_numbers-requires-2 : goal.put_numbers-requires-2
-unfolding row_width
-put_numbers-requires-2 c = omega (arith, rw c.in-Short.is at c.requires)
-
-pub returns : goal.returns
-returns c =
+pub returns-in-Short : goal.returns-in-Short
+returns-in-Short c =
     let s = c.args in
-    let f = c.in-Short.is in
     let d = c.decision_number-decision in
     let m = c.mark_of-mark in
-    let l = c.listed-nonces in
-    rw f (short_row s.telling s.head s.known.now (frame_of s.frame) s.at d.result s.rows.now d.ensures m.result _ _ (m.ensures ∙ rw (sub-zero, lists-front _ _ l.ensures)) refl c.put_numbers-2.ensures)
+    rw (c.in-Short.is, c.copy_from_slice-in-Short.ensures.after, ← short_row s.telling s.poll.now.head s.poll.now.known.now (frame_of s.frame) d.result d.ensures m.result _ (m.ensures ∙ rw (lists-front _ _ c.listed-nonces.ensures)) refl)

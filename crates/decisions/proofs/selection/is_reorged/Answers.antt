@@ -1,14 +1,11 @@
+use native.Mathlib.Omega.{arith}
 use mathlib.Core.Path.{ap, ◌∙◌}
 use mathlib.Core.Bool.{not}
-use native.Mathlib.Omega.{arith}
-use Rattle.decisions.proofs.Selecting.{other_block, any-hash, that-hash}
+use Rattle.decisions.proofs.Selecting.{any-hash, that-hash}
 use Rattle.decisions.proofs.selection.is_reorged.Goals as goal
 
-pub returns-then-at-block : goal.returns-then-at-block
-returns-then-at-block c = other_block c.args.e _ c.in-Tentative.is _ c.args.has_hash c.args.hash (λ b. omega (arith, c.block_of-at.ensures, c.if-at-block.true))
+pub returns-in-Some : goal.returns-in-Some
+returns-in-Some c = rw c.in-Some.is (ap not c.same_hash.ensures ∙ that-hash c.args.e.now _ c.in-Tentative.is _ (omega (arith, c.block_of.ensures)) c.in-Some.hash)
 
-pub returns-then-has_hash : goal.returns-then-has_hash
-returns-then-has_hash c = ap not c.same_hash.ensures ∙ that-hash c.args.e _ c.in-Tentative.is _ _ c.args.hash (omega (arith, c.block_of-at.ensures, c.if-at-block.false)) c.if-has_hash.true
-
-pub returns : goal.returns
-returns c = any-hash c.args.e _ c.in-Tentative.is _ _ c.args.hash (omega (arith, c.block_of-at.ensures, c.if-at-block.false)) c.if-has_hash.false
+pub returns-in-None : goal.returns-in-None
+returns-in-None c = rw c.in-None.is (any-hash c.args.e.now _ c.in-Tentative.is _ (omega (arith, c.block_of.ensures)))

@@ -1,35 +1,31 @@
+use Prim.Native.Nat.{◌+◌, ◌-◌, ◌*◌, ◌≤◌}
 use native.Mathlib.Omega.{arith}
-use lib.ListN.{length-set}
+use mathlib.Core.Path.{◌≡◌}
+use mathlib.Core.List.{[], ◌∷◌, ◌++◌}
+use lib.ListN.{length, take, drop}
+use Rattle.lists.specs.Lists.{written_at}
+use Rattle.guards.proofs.Parts.{part-put}
 use Rattle.store_rules.specs.View.{entry_of}
-use Rattle.decisions.proofs.Selecting.{room_for, ticket-listed, dead-listed, final-room, never-final}
+use Rattle.decisions.proofs.Selecting.{not-final, room_for, ticket-listed, dead-listed, never-final}
 use Rattle.decisions.proofs.selection.put_entry.Goals as goal
 
-pub bounds-numbers-n : goal.bounds-numbers-n
-bounds-numbers-n c = room_for c.args.by c.in_default.not-Finalized _ _ c.requires.1
-
 pub returns-in_default : goal.returns-in_default
-returns-in_default c = ticket-listed c.args.by c.in_default.not-Finalized (entry_of c.args.e) _ _ _ (room_for c.args.by c.in_default.not-Finalized _ _ c.requires.1)
-
-pub returns-in_default-state : goal.returns-in_default-state
-returns-in_default-state c = absurd (never-final c.args.e c.in_default-state.is (c.requires.3 c.in-Finalized.is))
-
-pub bounds-numbers-at : goal.bounds-numbers-at
-bounds-numbers-at c = let h = final-room _ _ _ _ _ c.in-Finalized.is c.requires.1 c.requires.2 in omega arith
-
-pub bounds-numbers-at-2 : goal.bounds-numbers-at-2
-bounds-numbers-at-2 c = let h = final-room _ _ _ _ _ c.in-Finalized.is c.requires.1 c.requires.2 in simp length-set (omega arith)
-
-pub bounds-numbers-at-3 : goal.bounds-numbers-at-3
-bounds-numbers-at-3 c = let h = final-room _ _ _ _ _ c.in-Finalized.is c.requires.1 c.requires.2 in simp length-set (omega arith)
-
-pub put_hash-requires : goal.put_hash-requires
-put_hash-requires c = let h = final-room _ _ _ _ _ c.in-Finalized.is c.requires.1 c.requires.2 in omega arith
-
-pub put_hash-requires-2 : goal.put_hash-requires-2
-put_hash-requires-2 c = let h = final-room _ _ _ _ _ c.in-Finalized.is c.requires.1 c.requires.2 in omega (arith, c.put_hash.ensures.same)
+returns-in_default c =
+    let a = c.args in
+    let k = not-final a.s c.in_default.not-Finalized in
+    let d = ticket-listed a.s k (entry_of a.e.now) _ _ _ (room_for a.s k _ _ c.requires.numbers_fit) in
+    record { numbers = d.0; bytes = d.1; sized = d.2 }
 
 pub returns : goal.returns
 returns c =
+    let a = c.args in
     let f = c.in-Finalized.is in
-    let h = final-room _ _ _ _ _ f c.requires.1 c.requires.2 in
-    rw f (dead-listed c.args.e _ c.in-Tentative.is _ _ _ _ _ _ _ _ h.0 h.1 c.block_of-block.ensures (c.kind_number-kind.ensures _ _) (c.taker_of-shown.ensures _) c.put_hash.ensures c.put_hash-2.ensures)
+    let n : 3 * a.n + 3 ≤ length a.numbers.now = rw f at c.requires.numbers_fit in
+    let b : 64 * a.n + 64 ≤ length a.bytes.now = rw f at c.requires.bytes_fit in
+    let put : take (3 * a.n) a.numbers.now ++ (c.copy_from_slice.new.self ++ drop (3 * a.n + 3 - 3 * a.n) (drop (3 * a.n) a.numbers.now)) ≡ written_at (3 * a.n) (a.e.now.frame.ticket ∷ c.block_of.result ∷ c.kind_number.result ∷ []) a.numbers.now =
+    rw c.copy_from_slice.ensures.after (part-put (3 * a.n) (3 * a.n + 3 - 3 * a.n) (a.e.now.frame.ticket ∷ c.block_of.result ∷ c.kind_number.result ∷ []) a.numbers.now (omega arith)) in
+    let d = dead-listed a.e.now _ c.in-Tentative.is c.in-Finalized.field-0 a.n a.numbers.now a.bytes.now _ _ _ c.block_of.result c.kind_number.result n b c.block_of.ensures (c.kind_number.ensures _ _) (c.taker_of.ensures _) c.put_array.ensures c.put_array-2.ensures in
+    rw (f, put) (record { numbers = d.0; bytes = d.1; sized = d.2 })
+
+pub returns-in_default-state : goal.returns-in_default-state
+returns-in_default-state c = absurd (never-final c.args.e.now c.in_default-state.is (c.requires.tentative (rw c.in-Finalized.is)))

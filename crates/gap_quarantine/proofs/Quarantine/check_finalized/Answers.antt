@@ -2,4 +2,4 @@ use Rattle.gap_quarantine.proofs.Whole.{whole}
 use Rattle.gap_quarantine.proofs.Quarantine.check_finalized.Goals as goal
 
 pub returns : goal.returns
-returns c = whole _ _ _ _ _ _ _ _ _ (c.check_finalized.ensures _) c.after.ensures
+returns c = whole (c.check_finalized.ensures _) c.after.ensures

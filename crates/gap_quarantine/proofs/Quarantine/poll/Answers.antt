@@ -2,4 +2,4 @@ use Rattle.gap_quarantine.proofs.Whole.{whole}
 use Rattle.gap_quarantine.proofs.Quarantine.poll.Goals as goal
 
 pub returns : goal.returns
-returns c = whole _ _ _ _ _ _ _ _ _ (c.poll.ensures _) c.after.ensures
+returns c = whole (c.poll.ensures _) c.after.ensures

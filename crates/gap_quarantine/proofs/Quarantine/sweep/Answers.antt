@@ -2,4 +2,4 @@ use Rattle.gap_quarantine.proofs.Whole.{whole}
 use Rattle.gap_quarantine.proofs.Quarantine.sweep.Goals as goal
 
 pub returns : goal.returns
-returns c = whole _ _ _ _ _ _ _ _ _ (c.sweep.ensures _) c.after.ensures
+returns c = whole (c.sweep.ensures _) c.after.ensures

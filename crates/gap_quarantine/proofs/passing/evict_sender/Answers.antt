@@ -3,4 +3,4 @@ use borrow.Author.Rules.{rules}
 use Rattle.gap_quarantine.proofs.passing.evict_sender.Goals as goal
 
 pub returns : goal.returns
-returns c = no_bytes _ _ _ _ _ c.pass.result c.pass.ensures (search rules)
+returns c = no_bytes _ _ _ _ _ _ c.pass-answer.ensures (search rules)

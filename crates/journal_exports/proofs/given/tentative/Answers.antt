@@ -1,5 +1,5 @@
 use mathlib.Core.Path.{ap}
-use mathlib.Core.Option.{some}
+use Rattle.std.specs.Prelude.{Some}
 use borrow.Author.Tests.{ne_eqb}
 use Rattle.journal_record.specs.Records.{Tentative}
 use Rattle.journal_exports.specs.Writers.{is_tentative, given_tentative}
@@ -15,4 +15,4 @@ consumed-requires c = rw (ne_eqb c.args.kind 0 c.if-kind-eq0.false) at c.require
 
 pub returns : goal.returns
 unfolding given_tentative
-returns c = rw (ne_eqb c.args.kind 0 c.if-kind-eq0.false) (ap {A = Tentative} some c.consumed.ensures)
+returns c = rw (ne_eqb c.args.kind 0 c.if-kind-eq0.false) (ap {A = Tentative} Some c.consumed.ensures)

@@ -1,7 +1,6 @@
 use native.Mathlib.Omega.{arith}
-use mathlib.Core.Path.{◌≡◌, refl}
+use mathlib.Core.Path.{refl}
 use mathlib.Core.List.{[], ◌∷◌}
-use lib.ListN.{length}
 use Rattle.wire.specs.Numbers.{digits}
 use Rattle.wire.proofs.NumberLaws.{length_digits}
 use Rattle.layout.specs.Layout.{join}
@@ -9,16 +8,6 @@ use Rattle.journal_writer.proofs.Filling.{begun, put, put_whole, ended, alone}
 use Rattle.journal_exports.specs.Export.{frame_bytes}
 use borrow.Author.Rules.{rules, length_unmapped}
 use Rattle.journal_exports.proofs.output.write_frame.Goals as goal
-
-pub put_bytes-requires : goal.put_bytes-requires
-put_bytes-requires c =
-    let h : length c.args.f.hash ≡ 32 = search (rules, length_unmapped) in
-    search rules
-
-pub put_bytes-requires-2 : goal.put_bytes-requires-2
-put_bytes-requires-2 c =
-    let h : length c.args.f.from ≡ 20 = search (rules, length_unmapped) in
-    search rules
 
 pub returns : goal.returns
 unfolding frame_bytes

@@ -2,19 +2,22 @@ use native.Mathlib.Omega.{arith}
 use mathlib.Core.Path.{refl, ◌∙◌}
 use Rattle.lists.proofs.Sums.{take-off, too_much, nothing_left}
 use Rattle.store_rules.specs.Sweeps.{bad_sum}
-use borrow.Author.Rules.{rules}
 use Rattle.polls.proofs.sweeping.bad_sum.Goals as goal
 
-pub loop-i-init : goal.loop-i-init
-loop-i-init c = (search rules, refl)
+pub loop-count-init : goal.loop-count-init
+loop-count-init c = refl
 
-pub returns-then-left-n : goal.returns-then-left-n
+pub returns-in_default : goal.returns-in_default
 unfolding bad_sum
-returns-then-left-n c = let l = c.loop-i in rw (l.invariant.1 ∙ too_much c.args.counts.now l.i l.left (omega arith) (omega arith)) refl
+returns-in_default c =
+    let l = c.loop-count in
+    rw (l.invariant ∙ too_much c.args.counts.now l.count-index l.left (omega arith) (omega (arith, c.in_default.ensures)))
 
-pub loop-i-preserved : goal.loop-i-preserved
-loop-i-preserved c = let l = c.loop-i in (search rules, l.invariant.1 ∙ take-off c.args.counts.now l.i l.left (omega arith) (omega arith))
+pub loop-count-preserved : goal.loop-count-preserved
+loop-count-preserved c =
+    let l = c.loop-count in
+    rw c.in-Some.ensures.1 (l.invariant ∙ take-off c.args.counts.now l.count-index l.left (omega arith) c.in-Some.ensures.0)
 
 pub returns : goal.returns
 unfolding bad_sum
-returns c = let l = c.loop-i in rw (l.invariant.1 ∙ nothing_left c.args.counts.now l.i l.left (omega arith)) refl
+returns c = let l = c.loop-count in rw (l.invariant ∙ nothing_left c.args.counts.now l.count-index l.left (omega arith))

@@ -1,24 +1,16 @@
 use native.Mathlib.Omega.{arith}
-use Rattle.lists.proofs.Compacting.{clamp, long}
 use Rattle.store_rules.specs.View.{entries_seen}
 use Rattle.polls.proofs.ListedSenders.{listed-by-entry, entry_more, entries-end}
-use borrow.Author.Rules.{rules}
 use Rattle.polls.proofs.sweeping.listed_entries.Goals as goal
 
-pub loop-i-init : goal.loop-i-init
-loop-i-init c = (search rules, search rules, search rules, search (rules, long), omega arith)
-
-pub loop-i-preserved : goal.loop-i-preserved
-loop-i-preserved c =
-    let a = c.args in
-    let l = c.loop-i in
-    let k = entry_more a.senders.now a.n a.h.entries c.clamped-len.result l.i _ _ (omega arith) (omega arith) c.times_listed-count.ensures.0 in
-    (omega arith, omega arith, l.invariant.2, l.invariant.3, omega (arith, k, l.invariant.4))
+pub loop-e-preserved : goal.loop-e-preserved
+loop-e-preserved c =
+    let l = c.loop-e in
+    let k = entry_more c.args.senders.now c.frames-frames.result.now l.e-index _ _ (omega arith) c.times_listed-count.ensures.0 in
+    (omega (arith, c.times_listed-count.ensures.1), omega (arith, k, l.invariant.1))
 
 pub returns : goal.returns
 returns c =
-    let a = c.args in
-    let l = c.loop-i in
-    let z = entries-end a.senders.now a.n a.h.entries c.clamped-len.result l.i (omega arith) in
-    let all = clamp a.h.len 64 a.h.entries l.invariant.3 in
-    (rw (listed-by-entry a.senders.now a.n (entries_seen a.h), ← all, ← c.clamped-len.ensures) (omega (arith, z, l.invariant.4)), omega arith)
+    let l = c.loop-e in
+    let z = entries-end c.args.senders.now c.frames-frames.result.now l.e-index (omega arith) in
+    (rw (listed-by-entry c.args.senders.now (entries_seen c.args.h.now), ← c.frames-frames.ensures.value) (omega (arith, z, l.invariant.1)), omega arith)

@@ -9,13 +9,13 @@ use Rattle.store_rules.proofs.lookup.is_sought.Goals.{then-tracked+in-Tracked, e
 pub returns-in_default : goal.returns-in_default
 returns-in_default c =
     let a = c.args in
-    rw c.if-tracked.true (sym (enters-tentative a.hash a.e _ c.in_default.is))
+    rw c.if-tracked.true (sym (enters-tentative a.hash a.e.now _ c.in_default.is))
 
 pub returns : goal.returns
 returns c =
     let a = c.args in
     c.same_hash.ensures
-    ∙ elim c.if-tracked.branch as (λ b. eq_bytes a.e.frame.hash a.hash ≡ sought a.hash a.tracked (entry_of a.e)) [
-      | then-tracked+in-Tracked w ↦ rw w.if-tracked.true (sym (enters-tracked a.hash a.e w.in-Tracked.is))
+    ∙ elim c.if-tracked.branch as (λ b. eq_bytes a.e.now.frame.hash a.hash ≡ sought a.hash a.tracked (entry_of a.e.now)) [
+      | then-tracked+in-Tracked w ↦ rw w.if-tracked.true (sym (enters-tracked a.hash a.e.now w.in-Tracked.is))
       | else-tracked w ↦ rw w.if-tracked.false
     ]

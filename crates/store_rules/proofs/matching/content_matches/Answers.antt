@@ -1,20 +1,19 @@
-use native.Mathlib.Omega.{arith}
-use mathlib.Core.Path.{sym, ◌∙◌}
-use Rattle.store_rules.proofs.Matches.{no-contents, no-nonces, by-contents}
+use Rattle.std.proofs.Common.{◌≡◌, false, sym, ◌∙◌}
+use Rattle.store_rules.proofs.Matches.{content-is}
 use Rattle.store_rules.proofs.matching.content_matches.Goals as goal
+use Rattle.store_rules.proofs.matching.content_matches.Goals.{then-not-is_empty, else-not-is_empty}
 
-pub returns-then-count-eq0 : goal.returns-then-count-eq0
-returns-then-count-eq0 c =
-    let a = c.args in
-    sym (no-contents a.guarded.now a.preds.now (record { nonces = a.nonces.now; hashes = a.hashes.now }) (omega arith))
+pub returns-then-not-is_empty-2 : goal.returns-then-not-is_empty-2
+returns-then-not-is_empty-2 c = elim c.if-not-is_empty.branch [
+  | then-not-is_empty w ↦ c.contents_hold.ensures ∙ sym (content-is _ _ _ ∙ rw (← c.is_empty.ensures, ← w.is_empty-then-not-is_empty.ensures, w.if-not-is_empty.true, sym w.value-is ∙ c.if-not-is_empty-2.true))
+  | else-not-is_empty w ↦ let x : c.if-not-is_empty.value ≡ false = w.value-is ∙ rw w.if-not-is_empty.false in cc
+]
 
-pub returns-then-nonces-eq0 : goal.returns-then-nonces-eq0
-returns-then-nonces-eq0 c =
-    let a = c.args in
-    sym (no-nonces a.guarded.now a.preds.now (record { nonces = a.nonces.now; hashes = a.hashes.now }) (λ e. omega arith) (omega arith))
-
-pub returns : goal.returns
-returns c =
-    let a = c.args in
-    c.contents_hold.ensures
-    ∙ sym (by-contents a.guarded.now a.preds.now (record { nonces = a.nonces.now; hashes = a.hashes.now }) (λ e. omega arith) (λ e. omega arith))
+pub returns-else-not-is_empty-2 : goal.returns-else-not-is_empty-2
+returns-else-not-is_empty-2 c =
+    c.if-not-is_empty-2.false
+    ∙ sym (content-is _ _ _
+    ∙ elim c.if-not-is_empty.branch [
+      | then-not-is_empty w ↦ rw (← c.is_empty.ensures, ← w.is_empty-then-not-is_empty.ensures, w.if-not-is_empty.true, sym w.value-is ∙ c.if-not-is_empty-2.false)
+      | else-not-is_empty w ↦ rw (← c.is_empty.ensures, w.if-not-is_empty.false)
+    ])

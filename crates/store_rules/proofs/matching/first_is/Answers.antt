@@ -1,30 +1,14 @@
-use Prim.Native.Nat.{◌+◌, ◌-◌}
-use native.Mathlib.Omega.{arith}
-use mathlib.Core.Path.{◌≡◌, refl, sym, ◌∙◌}
-use borrow.Author.Tests.{eq-eqb, ne_eqb}
-use Rattle.store_rules.proofs.Matches.{first-turn, first-none}
-use borrow.Author.Rules.{rules}
+use Rattle.std.proofs.Common.{◌∙◌, arith}
+use Rattle.store_rules.proofs.Matches.{this-pair, next-pair, no-pair}
 use Rattle.store_rules.proofs.matching.first_is.Goals as goal
 
-pub loop-i-init : goal.loop-i-init
-loop-i-init c = (search rules, search rules, refl)
+pub returns-then-m-n : goal.returns-then-m-n
+returns-then-m-n c = c.same_bytes.ensures ∙ this-pair _ _ _ _ c.loop-m.m-iterator c.next.new.self c.loop-m.invariant.0 c.in-Some.m c.in-Some.own c.in-Some.ensures.steps c.if-m-n.true
 
-pub returns-then-nonces-i : goal.returns-then-nonces-i
-returns-then-nonces-i c =
-    let l = c.loop-i in
-    let a = c.args in
-    let e : l.at + 32 - l.at ≡ 32 = omega arith in
-    let f = rw e at c.same_bytes.ensures in
-    f ∙ sym (l.invariant.2 ∙ first-turn a.n a.hash.now a.nonces.now a.hashes.now l.i l.at (omega arith) ∙ rw (eq-eqb _ _ c.if-nonces-i.true))
-
-pub loop-i-preserved : goal.loop-i-preserved
-loop-i-preserved c =
-    let l = c.loop-i in
-    let a = c.args in
-    (search rules, search rules, l.invariant.2 ∙ first-turn a.n a.hash.now a.nonces.now a.hashes.now l.i l.at (omega arith) ∙ rw (ne_eqb _ _ c.if-nonces-i.false))
+pub loop-m-preserved : goal.loop-m-preserved
+loop-m-preserved c =
+    let on = next-pair _ _ _ _ c.loop-m.m-iterator c.next.new.self c.loop-m.invariant.0 c.in-Some.m c.in-Some.own c.in-Some.ensures.steps c.if-m-n.false in
+    (on, (tt, omega (arith, on.size)), tt)
 
 pub returns : goal.returns
-returns c =
-    let l = c.loop-i in
-    let a = c.args in
-    sym (l.invariant.2 ∙ first-none a.n a.hash.now a.nonces.now _ l.i (omega arith))
+returns c = no-pair _ _ _ _ c.loop-m.m-iterator c.next.new.self c.loop-m.invariant.0 c.in-None.ensures.steps

@@ -1,26 +1,19 @@
-use mathlib.Core.Path.{sym, ◌∙◌}
-use mathlib.Core.Option.{some}
-use Rattle.store_rules.specs.View.{kind_of}
-use Rattle.store_rules.proofs.Matches.{other-preds, other-boundary, by-content}
+use Rattle.std.proofs.Common.{◌≡◌, false, sym, ◌∙◌}
+use Rattle.store_rules.proofs.Matches.{guard-is}
 use Rattle.store_rules.proofs.matching.guard_matches.Goals as goal
+use Rattle.store_rules.proofs.matching.guard_matches.Goals.{then-eq, else-eq}
 
-pub returns-then-not-same_numbers : goal.returns-then-not-same_numbers
-returns-then-not-same_numbers c h =
-    let a = c.args in
-    sym (other-preds (record { hash = h; kind = kind_of a.kind; predecessors = a.own.now; contents = a.contents.now }) a.preds.now a.expected
-    (some (record { nonces = a.nonces.now; hashes = a.hashes.now })) (sym c.same_numbers.ensures ∙ c.if-not-same_numbers.true))
+pub returns-then-boundary_holds : goal.returns-then-boundary_holds
+returns-then-boundary_holds c hash = elim c.if-eq.branch [
+  | then-eq w ↦ c.content_matches.ensures ∙ sym (guard-is _ _ _ _ ∙ rw (← c.eq.ensures, w.if-eq.true, ← w.boundary_holds.ensures, sym w.value-is ∙ c.if-boundary_holds.true))
+  | else-eq w ↦ let x : c.if-eq.value ≡ false = w.value-is ∙ w.if-eq.false in cc
+]
 
-pub returns-then-not-boundary_holds : goal.returns-then-not-boundary_holds
-returns-then-not-boundary_holds c h =
-    let a = c.args in
-    sym (other-boundary (record { hash = h; kind = kind_of a.kind; predecessors = a.own.now; contents = a.contents.now }) a.preds.now a.expected
-    (some (record { nonces = a.nonces.now; hashes = a.hashes.now })) (sym c.same_numbers.ensures ∙ c.if-not-same_numbers.false)
-    (sym c.boundary_holds.ensures ∙ c.if-not-boundary_holds.true))
-
-pub returns : goal.returns
-returns c h =
-    let a = c.args in
-    c.content_matches.ensures
-    ∙ sym (by-content (record { hash = h; kind = kind_of a.kind; predecessors = a.own.now; contents = a.contents.now }) a.preds.now a.expected
-    (some (record { nonces = a.nonces.now; hashes = a.hashes.now })) (sym c.same_numbers.ensures ∙ c.if-not-same_numbers.false)
-    (sym c.boundary_holds.ensures ∙ c.if-not-boundary_holds.false))
+pub returns-else-boundary_holds : goal.returns-else-boundary_holds
+returns-else-boundary_holds c hash =
+    c.if-boundary_holds.false
+    ∙ sym (guard-is _ _ _ _
+    ∙ elim c.if-eq.branch [
+      | then-eq w ↦ rw (← c.eq.ensures, w.if-eq.true, ← w.boundary_holds.ensures, sym w.value-is ∙ c.if-boundary_holds.false)
+      | else-eq w ↦ rw (← c.eq.ensures, w.if-eq.false)
+    ])

@@ -10,4 +10,4 @@ returns-then-bytes-lt22 c = λ hashes. not_made long c.args.q c.args.bytes.now _
 pub returns : goal.returns
 returns c =
     let bs = c.args.bytes.now in
-    λ hashes. made-numbers long c.args.q bs _ (evict_sender (take 20 (drop 2 bs))) 22 c.evict_sender.result _ (evict-read bs c.if-bytes-lt22.false) c.if-bytes-lt22.false c.answered.ensures tt tt _ _ hashes (rw c.address_at.ensures at c.evict_sender.ensures)
+    λ hashes. made-numbers long c.args.q bs _ (evict_sender (take 20 (drop 2 bs))) 22 c.evict_sender.result _ (evict-read bs c.if-bytes-lt22.false) c.if-bytes-lt22.false c.answered.ensures tt _ _ hashes (rw c.array_at.ensures at c.evict_sender.ensures)

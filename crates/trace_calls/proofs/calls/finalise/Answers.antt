@@ -9,4 +9,4 @@ returns-then-bytes-lt10 c = not_made long c.args.q c.args.bytes.now _ _ _ _ (fin
 pub returns : goal.returns
 returns c =
     let bs = c.args.bytes.now in
-    made-answered long c.args.q bs _ _ 10 c.check_finalized.result _ (final-read bs c.if-bytes-lt10.false) c.if-bytes-lt10.false c.answered.ensures tt _ _ _ _ (rw c.number.ensures at c.check_finalized.ensures)
+    made-answered long c.args.q bs _ _ 10 c.check_finalized.result _ (final-read bs c.if-bytes-lt10.false) c.if-bytes-lt10.false c.answered.ensures _ _ _ _ (rw c.number-n.ensures at c.check_finalized.ensures)

@@ -8,10 +8,8 @@ returns-then-bytes-lt94 c = λ slice hashes. not_made long c.args.q c.args.bytes
 
 pub returns : goal.returns
 returns c =
-    let a = c.args in
-    let bs = a.bytes.now in
+    let bs = c.args.bytes.now in
     let h = c.if-bytes-lt94.false in
-    let pushed = c.push in
-    λ slice hashes. made-alone long a.q bs _ _ 94 pushed.result _ (push-read bs h) h c.answered.ensures tt tt slice hashes
-    (rw (c.hash_at.ensures, c.address_at.ensures, c.number.ensures, c.number-2.ensures, c.number-3.ensures, c.number-4.ensures, c.number-5.ensures)
-    at pushed.ensures)
+    λ slice hashes. made-alone long c.args.q bs _ _ 94 c.push.result _ (push-read bs h) h c.answered.ensures tt slice hashes
+    (rw (c.array_at.ensures, c.array_at-2.ensures, c.number.ensures, c.number-2.ensures, c.number-3.ensures, c.number-4.ensures, c.number-5.ensures)
+    at c.push.ensures)

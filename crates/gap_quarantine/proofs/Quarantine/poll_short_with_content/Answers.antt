@@ -1,5 +1,0 @@
-use Rattle.gap_quarantine.proofs.Whole.{whole}
-use Rattle.gap_quarantine.proofs.Quarantine.poll_short_with_content.Goals as goal
-
-pub returns : goal.returns
-returns c = whole _ _ _ _ _ _ _ _ _ c.poll_short_with_content.ensures c.after.ensures

@@ -1,7 +1,0 @@
-use Rattle.polls.proofs.polling.answer_of.Goals as goal
-
-pub returns-in-Long : goal.returns-in-Long
-returns-in-Long c = rw c.in-Long.is
-
-pub returns-in-Short : goal.returns-in-Short
-returns-in-Short c = rw c.in-Short.is

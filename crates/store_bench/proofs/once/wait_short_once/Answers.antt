@@ -1,6 +1,0 @@
-use mathlib.Core.Path.{◌∙◌}
-use Rattle.store_bench.proofs.Performing.{tells}
-use Rattle.store_bench.proofs.once.wait_short_once.Goals as goal
-
-pub returns : goal.returns
-returns c = c.counted.ensures ∙ tells _ (c.poll_short-r.ensures _)
