@@ -13,10 +13,9 @@ fn made_tentative(e: Entry, consumed: NonceConsumed, block_hash: [u8; 32], taker
     ensures { entry_of result ≡ enter_with (consumed_of consumed block_hash taker) (entry_of e) }
 {
     Entry {
-        state: FrameState::Tentative(consumed),
         block_hash,
         taker,
-        ..e
+        ..e.with_state(FrameState::Tentative(consumed))
     }
 }
 
