@@ -1,7 +1,9 @@
 pub mod Bounds
 pub mod FullRule
 pub mod Going
+pub mod Moving
 pub mod Putting
 pub mod Restoring
+pub mod Showing
 pub mod Sought
 pub mod Stepping
