@@ -1,13 +1,20 @@
--- What waits after texts were put one after another, in a loop and in turn.
+-- What waits after a write failed, and after texts were put one after another, in a loop and in turn.
 use Prim.Native.Nat.{ℕ, ◌+◌, ◌≤◌, ◌<◌}
 use native.Mathlib.Numerals.{add-one}
-use mathlib.Core.Path.{◌≡◌, ap, ◌∙◌}
+use mathlib.Core.Path.{◌≡◌, refl, ap, ◌∙◌}
+use mathlib.Core.Bool.{Bool}
 use mathlib.Core.List.{List, [], ◌∷◌, ◌++◌}
 use lib.ListN.{length, drop, get_or, drop_of_length-le}
 use lib.Seq.{drop-cons}
 use Rattle.lists.specs.Bytes.{Bytes}
 use Rattle.wire.specs.HashText.{hex_pair}
-use Rattle.console.specs.Waiting.{behind, all_behind, counted, pairs}
+use Rattle.console.specs.declared.output.Output.{Output}
+use Rattle.console.specs.Waiting.{waits, behind, all_behind, counted, pairs}
+
+-- whether a write has failed does not change what waits
+pub kept-waits : (o : Output) (failed : Bool) → waits (record o { failed = failed }) ≡ waits o
+unfolding waits
+kept-waits o failed = refl
 
 -- a byte's two digits are put, and those of the others are left
 pub hex-turn : (bs w next p : Bytes) (i : ℕ) → i < length bs → p ≡ hex_pair (get_or bs i 0)

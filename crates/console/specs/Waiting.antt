@@ -1,9 +1,14 @@
 -- The bytes that wait to be written, 4,096 at most. What is written is no part of the logic, and what waits is: after texts were put, one by
 -- one, and where they are numbers and bytes as digits.
-use Rattle.std.specs.Prelude.{ℕ, zero, suc, ◌-◌, ◌/◌, cond, List, [], ◌∷◌, ◌++◌, leb, ltb, length}
+use Rattle.std.specs.Prelude.{ℕ, zero, suc, ◌-◌, ◌/◌, cond, List, [], ◌∷◌, ◌++◌, leb, ltb, length, take}
 use Rattle.lists.specs.Bytes.{Bytes}
 use Rattle.wire.specs.HashText.{hex_pair}
 use Rattle.io.specs.Digits.{last_digits}
+use Rattle.console.specs.declared.output.Output.{Output}
+
+-- the bytes that wait
+unfoldable pub waits : Output → Bytes
+waits o = take o.count o.bytes
 
 -- what waits once a text was put after w; where it does not fit there, w is written first, and a text that fits nowhere is too
 unfoldable pub behind : Bytes → Bytes → Bytes

@@ -1,88 +1,106 @@
 // Standard output behind a buffer: what is put waits there until it is full or flushed.
-ghost use Rattle.std.specs.Prelude.{◌≡◌, [], ◌∷◌};
-ghost use Rattle.console.specs.Waiting.{behind, all_behind, decimal, counted, pairs};
+ghost use Rattle.std.specs.Prelude.{◌≡◌, [], ◌∷◌, ◌++◌, ◌+◌, ◌≤◌, length, take};
+ghost use Rattle.console.specs.Waiting.{waits, behind, all_behind, decimal, counted, pairs};
 
 use crate::failures;
-use arrayvec::ArrayVec;
-use std::marker::Model;
 
 // How many bytes wait at most.
 const ROOM: usize = 4096;
 
-// Standard output itself, to which nothing is written any more once a write has failed.
-#[derive(Drop)]
-struct Sink {
-    rt: HostRuntime,
-    failed: bool,
-}
-
-impl Sink {
-    // Writes bytes, unless a write has failed before. The first that fails is a line on standard error, with its reason.
-    fn write(&mut self, bytes: &[u8]) {
-        if self.failed {
-            return;
-        }
-        if let Err(e) = self.rt.write_all(bytes) {
-            failures::fail(&self.rt, "standard output", e);
-            self.failed = true;
-        }
+// Writes bytes to standard output, unless a write has failed before. The first that fails is a line on standard error, with its reason.
+fn write(rt: HostRuntime, failed: &mut bool, bytes: &[u8]) {
+    if *failed {
+        return;
+    }
+    if let Err(e) = rt.write_all(bytes) {
+        failures::fail(&rt, "standard output", e);
+        *failed = true;
     }
 }
 
-// Standard output, and the bytes that wait to be written to it. A contract sees the bytes that wait.
-#[derive(Drop)]
+// Standard output, whether a write to it has failed, and the bytes that wait to be written: the first `count` of `bytes`, or all of them
+// where `count` is more.
+#[derive(Clone, Copy)]
 pub struct Output {
-    sink: Sink,
-    waiting: ArrayVec<u8, ROOM>,
-}
-
-impl Model for Output {
-    ghost use Rattle.std.specs.Prelude.{ℕ, ◌≤◌, List, length};
-
-    ghost Value = { List ℕ };
-
-    ghost view = { λ o. o.waiting.items };
-
-    ghost invariant = { λ o. length o.waiting.items ≤ 4096 };
+    rt: HostRuntime,
+    pub failed: bool,
+    pub bytes: [u8; ROOM],
+    pub count: usize,
 }
 
 impl Output {
     // Standard output with nothing that waits.
+    #[tactic(auto, unfolding(crate::specs::Waiting::waits))]
     pub fn new(rt: HostRuntime) -> Self
-        ensures { result ≡ [] }
+        ensures { waits result ≡ [] }
     {
         Output {
-            sink: Sink { rt, failed: false },
-            waiting: ArrayVec::new(),
+            rt,
+            failed: false,
+            bytes: [0; ROOM],
+            count: 0,
         }
+    }
+
+    // Whether a write has failed, after which nothing is written any more.
+    pub fn has_failed(&self) -> bool
+        ensures { result ≡ self.now.failed }
+    {
+        self.failed
+    }
+
+    // How many bytes wait.
+    #[tactic(auto, unfolding(crate::specs::Waiting::waits))]
+    fn waiting(&self) -> usize
+        ensures within { result ≤ 4096 }
+        ensures len { result ≡ length (waits self.now) }
+        ensures first { take result self.now.bytes ≡ waits self.now }
+    {
+        self.count.min(ROOM)
+    }
+
+    // Puts bytes at a place after which none wait any more.
+    #[tactic(auto, unfolding(crate::specs::Waiting::waits))]
+    fn put(&mut self, at: usize, t: &[u8])
+        requires { at + length t.now ≤ 4096 }
+        ensures { waits self.new ≡ take at self.old.bytes ++ t.now }
+    {
+        self.bytes[at..at + t.len()].copy_from_slice(t);
+        self.count = at + t.len();
     }
 
     // Writes what waits.
+    #[tactic(auto, unfolding(crate::specs::Waiting::waits))]
     pub fn flush(&mut self)
-        ensures { self.new ≡ [] }
+        ensures { waits self.new ≡ [] }
     {
-        self.sink.write(self.waiting.as_slice());
-        self.waiting.clear();
+        let n = self.waiting();
+        write(self.rt, &mut self.failed, &self.bytes[..n]);
+        self.count = 0;
     }
 
     // Puts a text after what waits. What waits is written first where there is no room for it.
-    #[tactic(auto, unfolding(crate::specs::Waiting::behind))]
+    #[tactic(auto, unfolding(crate::specs::Waiting::waits, crate::specs::Waiting::behind))]
     pub fn text(&mut self, t: &[u8])
-        ensures { self.new ≡ behind self.old t.now }
+        ensures { waits self.new ≡ behind (waits self.old) t.now }
     {
-        if self.waiting.try_extend_from_slice(t).is_ok() {
+        let at = self.waiting();
+        if t.len() <= ROOM - at {
+            self.put(at, t);
             return;
         }
         self.flush();
-        // A text that is longer than the whole buffer is written by itself.
-        if self.waiting.try_extend_from_slice(t).is_err() {
-            self.sink.write(t);
+        if t.len() <= ROOM {
+            self.put(0, t);
+        } else {
+            // A text that is longer than the whole buffer is written by itself.
+            write(self.rt, &mut self.failed, t);
         }
     }
 
     // Puts a number's decimal digits.
     pub fn number(&mut self, n: u64)
-        ensures { self.new ≡ behind self.old (decimal n) }
+        ensures { waits self.new ≡ behind (waits self.old) (decimal n) }
     {
         // The kit's function writes to an array, and returns how many digits it wrote.
         let mut digits = [0u8; 20];
@@ -92,7 +110,7 @@ impl Output {
 
     // Puts a number with a space before it.
     pub fn next(&mut self, n: u64)
-        ensures { self.new ≡ behind (behind self.old (32 ∷ [])) (decimal n) }
+        ensures { waits self.new ≡ behind (behind (waits self.old) (32 ∷ [])) (decimal n) }
     {
         self.text(b" ");
         self.number(n);
@@ -100,7 +118,7 @@ impl Output {
 
     // Puts bytes as lowercase hex digits.
     pub fn hex(&mut self, bytes: &[u8])
-        ensures { self.new ≡ all_behind self.old (pairs bytes.now) }
+        ensures { waits self.new ≡ all_behind (waits self.old) (pairs bytes.now) }
     {
         for byte in bytes {
             self.text(&wire::hex_pair(*byte));
@@ -110,7 +128,7 @@ impl Output {
     // Puts a word, a space and a number.
     #[tactic(auto, unfolding(crate::specs::Waiting::all_behind, crate::specs::Waiting::counted))]
     pub fn count(&mut self, word: &[u8], n: u64)
-        ensures { self.new ≡ all_behind self.old (counted word.now n) }
+        ensures { waits self.new ≡ all_behind (waits self.old) (counted word.now n) }
     {
         self.text(word);
         self.next(n);

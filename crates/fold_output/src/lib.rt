@@ -2,7 +2,7 @@
 #![tactic(auto)]
 
 ghost use Rattle.std.specs.Prelude.{◌≡◌};
-ghost use Rattle.console.specs.Waiting.{all_behind};
+ghost use Rattle.console.specs.Waiting.{waits, all_behind};
 ghost use Rattle.fold_output.specs.Lines.{refusal_line, totals_line, fold_line, journal_line, fold_output};
 
 use console::Output;
@@ -15,7 +15,7 @@ const PENDING: usize = 15360;
 
 // The line of a refusal: its number, and the offset at which the journal is refused.
 fn refusal_line(out: &mut Output, number: u64, offset: u64)
-    ensures { out.new ≡ all_behind out.old (refusal_line number offset) }
+    ensures { waits out.new ≡ all_behind (waits out.old) (refusal_line number offset) }
 {
     out.count(b"refused", number);
     out.count(b" at", offset);
@@ -24,7 +24,7 @@ fn refusal_line(out: &mut Output, number: u64, offset: u64)
 
 // The line of a fold that returned 0, with its five totals.
 fn totals_line(out: &mut Output, totals: &[u8; 40])
-    ensures { out.new ≡ all_behind out.old (totals_line totals.now) }
+    ensures { waits out.new ≡ all_behind (waits out.old) (totals_line totals.now) }
 {
     out.count(b"pending", wire::number(totals, 0, 8));
     out.count(b" skipped", wire::number(totals, 8, 8));
@@ -37,7 +37,7 @@ fn totals_line(out: &mut Output, totals: &[u8; 40])
 // Document 01's line of a fold, from what the exported function returned and wrote.
 // The refusal and its offset are one number, and the totals are bytes, since C's function returns and writes them so.
 pub fn fold_line(out: &mut Output, code: u64, totals: &[u8; 40])
-    ensures { out.new ≡ all_behind out.old (fold_line code totals.now) }
+    ensures { waits out.new ≡ all_behind (waits out.old) (fold_line code totals.now) }
 {
     if code == 0 {
         totals_line(out, totals);
@@ -48,7 +48,7 @@ pub fn fold_line(out: &mut Output, code: u64, totals: &[u8; 40])
 
 // Folds a journal and puts its line.
 fn put_journal(out: &mut Output, journal: &[u8])
-    ensures { out.new ≡ all_behind out.old (journal_line journal.now) }
+    ensures { waits out.new ≡ all_behind (waits out.old) (journal_line journal.now) }
 {
     let mut pending = [0u8; PENDING];
     let mut totals = [0u8; 40];
@@ -59,7 +59,7 @@ fn put_journal(out: &mut Output, journal: &[u8])
 // Puts what is printed where n bytes of a file were read to the front of `read`.
 // The count stands beside the array, since the contract holds at each count: over the limit the bytes do not matter.
 pub fn put_fold(out: &mut Output, read: &[u8; READ], n: usize)
-    ensures { out.new ≡ all_behind out.old (fold_output n read.now) }
+    ensures { waits out.new ≡ all_behind (waits out.old) (fold_output n read.now) }
 {
     put_journal(out, &read[..n.min(READ)]);
 }

@@ -3,7 +3,7 @@
 #![tactic(auto)]
 
 ghost use Rattle.std.specs.Prelude.{◌≡◌};
-ghost use Rattle.console.specs.Waiting.{all_behind};
+ghost use Rattle.console.specs.Waiting.{waits, all_behind};
 ghost use Rattle.trace_format.specs.Traces.{read_trace};
 ghost use Rattle.trace_run.specs.Promises.{totals_of};
 ghost use Rattle.trace_output.specs.Examples.{Examples};
@@ -18,7 +18,7 @@ pub const READ: usize = MOST_BYTES + 1;
 
 // A line: a place, a space and a number.
 fn placed_line(out: &mut Output, place: usize, n: u64)
-    ensures { out.new ≡ all_behind out.old (placed_line place n) }
+    ensures { waits out.new ≡ all_behind (waits out.old) (placed_line place n) }
 {
     out.number(place as u64);
     out.next(n);
@@ -27,7 +27,7 @@ fn placed_line(out: &mut Output, place: usize, n: u64)
 
 // A line for each number, from place 0 on.
 fn placed_lines(out: &mut Output, lines: &[u64])
-    ensures { out.new ≡ all_behind out.old (placed_lines 0 lines.now) }
+    ensures { waits out.new ≡ all_behind (waits out.old) (placed_lines 0 lines.now) }
 {
     for (place, n) in lines.iter().enumerate() {
         placed_line(out, place, *n);
@@ -36,7 +36,7 @@ fn placed_lines(out: &mut Output, lines: &[u64])
 
 // The last line of a whole trace.
 fn totals_line(out: &mut Output, totals: Totals)
-    ensures { out.new ≡ all_behind out.old (totals_line (totals_of totals)) }
+    ensures { waits out.new ≡ all_behind (waits out.old) (totals_line (totals_of totals)) }
 {
     out.count(b"accepted", totals.accepted as u64);
     out.count(b" held", totals.held as u64);
@@ -48,7 +48,7 @@ fn totals_line(out: &mut Output, totals: Totals)
 
 // Runs a trace and puts its lines.
 fn put_lines(out: &mut Output, trace: &[u8])
-    ensures { out.new ≡ all_behind out.old (trace_lines (read_trace trace.now)) }
+    ensures { waits out.new ≡ all_behind (waits out.old) (trace_lines (read_trace trace.now)) }
 {
     let mut lines = [0u64; MOST_LINES];
     let ran = trace_run::run_trace(trace, &mut lines);
@@ -62,7 +62,7 @@ fn put_lines(out: &mut Output, trace: &[u8])
 // Puts what is printed where n bytes of a file were read to the front of `read`.
 // The count stands beside the array, since the contract holds at each count: over the limit the bytes do not matter.
 pub fn put_trace(out: &mut Output, read: &[u8; READ], n: usize)
-    ensures { out.new ≡ all_behind out.old (trace_output n read.now) }
+    ensures { waits out.new ≡ all_behind (waits out.old) (trace_output n read.now) }
 {
     put_lines(out, &read[..n.min(READ)]);
 }
