@@ -76,21 +76,21 @@ module _ (address senders : Bytes) (s t : ChunksExact ℕ) (n : ℕ) (w : Times 
 
 -- ---- the entries of all senders
 
--- how often an entry's sender is listed
-abbrev pub listings : Bytes → Entry → ℕ
-listings senders e = times e.frame.from senders
+-- how often an entry's sender is listed among the first n
+abbrev pub listings : Bytes → ℕ → Entry → ℕ
+listings senders n e = length (keep (λ a. eq_bytes e.frame.from a) (chunks 20 n senders))
 
 -- an entry counts as often as its sender is listed
-pub listed-by-entry : (senders : Bytes) (es : List Entry) → listed_entries senders (length senders / 20) es ≡ sum (map (listings senders) es)
+pub listed-by-entry : (senders : Bytes) (n : ℕ) (es : List Entry) → listed_entries senders n es ≡ sum (map (listings senders n) es)
 unfolding listed_entries entries_of
-listed-by-entry senders es = rows-and-columns (λ (a : Bytes) (e : Entry). eq_bytes e.frame.from a) (chunks 20 (length senders / 20) senders) es
+listed-by-entry senders n es = rows-and-columns (λ (a : Bytes) (e : Entry). eq_bytes e.frame.from a) (chunks 20 n senders) es
 
 -- of the entries from place i on
 abbrev pub listed_left : Bytes → List coded.Entry → ℕ → ℕ
-listed_left senders es i = sum (map (listings senders) (map entry_of (drop i es)))
+listed_left senders es i = sum (map (listings senders (length senders / 20)) (map entry_of (drop i es)))
 
 module _ (senders : Bytes) (es : List coded.Entry) (i : ℕ) where
-  pub entry_more : (d : coded.Entry) (k : ℕ) → i < length es → k ≡ listings senders (entry_of (get_or es i d)) → listed_left senders es i ≡ k + listed_left senders es (i + 1)
+  pub entry_more : (d : coded.Entry) (k : ℕ) → i < length es → k ≡ listings senders (length senders / 20) (entry_of (get_or es i d)) → listed_left senders es i ≡ k + listed_left senders es (i + 1)
   unfolding sum
   entry_more d k h e = rw (add-one, drop-cons es i d h, e)
 

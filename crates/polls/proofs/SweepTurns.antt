@@ -42,10 +42,10 @@ module _ (s : Store) (sender : Bytes) (head : ℕ) (known part part' : List ℕ)
   polled = step s (lent (poll sender head known None) (length part))
 
   module _ (says : a ≡ said long polled.1) (counts : k ≡ rows_said a) where
-    row_count : k ≡ length (rows_of polled.1)
+    pub row_count : k ≡ length (rows_of polled.1)
     row_count = counts ∙ ap rows_said says ∙ rows-said polled.1
 
-    number-count : 19 * k ≡ length (numbers_of long polled.1)
+    pub number-count : 19 * k ≡ length (numbers_of long polled.1)
     unfolding row_width
     number-count = ap (λ (n : ℕ). 19 * n) row_count ∙ sym (poll-length s long sender head known None (length part))
 
@@ -109,7 +109,7 @@ module _ (q : Store) (all : List Request) (slice : List ℕ) where
           let b : length slice - 19 * (count + k) ≡ length slice - 19 * count - length (numbers_of long answered.1) = omega arith in
           rw (front, back, b)
 
-      turn : k ≡ length (rows_of answered.1) → 19 * k ≤ length slice - 19 * count → (s' : Store) → s' ≡ answered.0 → (after' : List ℕ) → after' ≡ written_at (19 * count) (numbers_of long answered.1) after →
+      pub turn : k ≡ length (rows_of answered.1) → 19 * k ≤ length slice - 19 * count → (s' : Store) → s' ≡ answered.0 → (after' : List ℕ) → after' ≡ written_at (19 * count) (numbers_of long answered.1) after →
           Taken slice after' (count + k) ss hs cs (drop c nonces) × Sweeping s' after' (count + k) ss hs cs (drop c nonces)
       unfolding run rows_listed sum
       turn rows_are room s' es after' er =

@@ -79,6 +79,6 @@ every-break bs short broken = go s.end
         record {
           at = length s.front;
           before = rw (front, t) (read_whole s.front _ (omega arith) (rw (append-nil s.front) at (s.anyway [] true read_none)));
-          None = rw back n;
+          none = rw back n;
           anyway = λ behind e n h. rw (front, t) (read_whole (s.front ++ behind) _ (rw length-append h) (s.anyway behind false (read-no-call behind e n)));
         }

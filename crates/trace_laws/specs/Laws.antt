@@ -26,7 +26,7 @@ WrittenAgain = (bs : Bytes) → Each (λ b. b < 256) bs → (read_trace bs).whol
 pub record Breaks (bs : Bytes) : Type 0 where
   pub at : ℕ
   pub before : read_trace (take at bs) ≡ record { calls = (read_trace bs).calls; whole = true }
-  pub None : NotRead (read_call (drop at bs))
+  pub none : NotRead (read_call (drop at bs))
   pub anyway : (behind : Bytes) → is_empty behind ≡ false → NotRead (read_call behind) → at + length behind ≤ 65536 → read_trace (take at bs ++ behind) ≡ read_trace bs
 
 abbrev pub EveryBreak : Type 0

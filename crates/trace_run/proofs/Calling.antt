@@ -12,6 +12,7 @@ use Rattle.store_rules.specs.Store.{Store, Call, long, short, row_width, Answer,
 use Rattle.store_rules.specs.Answers.{Said, says_total, says_rows, says_recorded, says_entered, says_frames, says_dead, says_refused, said, numbers_of}
 use Rattle.store_rules.specs.Sweeps.{single}
 use Rattle.store_rules.specs.Totals.{accepted_in, rescued_in, dead_in, evicted_in}
+use Rattle.refusal.specs.Numbers.{refusal_number}
 use Rattle.refusal.specs.declared.Refusal.{Refusal}
 use Rattle.refusal.specs.declared.Refusal.TheVariants.{BadTrace}
 use Rattle.answers.specs.Promises.{heard}
@@ -110,10 +111,10 @@ module _ (q : Quarantine) (bs : Bytes) (numbers hashes : List ℕ) (numbers' has
 module _ (q : Quarantine) (bs : Bytes) (numbers hashes : List ℕ) (read : ReadCall) (k : Called) (store : Quarantine) (numbers' hashes' : List ℕ) (long-numbers : length numbers ≡ 1216) (long-hashes : length hashes ≡ 4096)
     (m : IsRead q bs numbers hashes read k store numbers' hashes') where
   -- the number, the counts and the store that it leads to
-  pub leads-to : (n : Counts) →
+  pub call-leads : (n : Counts) →
       (number_of k.reply ≡ refusal_in (step (view_of q) (lent m.c)).1) × (counted_by n k.evicts k.reply numbers' ≡ plus_call n (view_of q) m.c) × (view_of store ≡ (step (view_of q) (lent m.c)).0)
   unfolding lent
-  leads-to n =
+  call-leads n =
       let g = rw (long-numbers, long-hashes) at m.made.steps in (
         reply-number k.reply ∙ ap number_said g.answer ∙ said-number _,
         rw (reply-counted n k.evicts k.reply numbers', g.answer, g.numbers_after, m.made.evicts) (adds (view_of q) (lent m.c) n numbers),
@@ -127,6 +128,36 @@ module _ (q : Quarantine) (bs : Bytes) (numbers hashes : List ℕ) (read : ReadC
       let g = rw (long-numbers, long-hashes) at m.made.steps in
       let fits = written-fits (numbers_of long (step (view_of q) (lent m.c)).1) numbers numbers' g.numbers_after (e ∙ sym long-numbers) in
       rw (reply-listed k.reply, g.answer) (omega (arith, numbers-said (view_of q) (lent m.c), fits, long-numbers))
+
+-- ---- what is read, a call or none
+
+-- the number, the counts and the store that it leads to, as it is read
+abbrev pub LeadsTo : Store → Counts → ReadCall → ℕ → Counts → Store → Type 0
+LeadsTo s n (got c rest) number n' t = (number ≡ refusal_in (step s (lent c)).1) × (n' ≡ plus_call n s c) × (t ≡ (step s (lent c)).0)
+LeadsTo s n cut_short number n' t = (number ≡ 19) × (n' ≡ n) × (t ≡ s)
+LeadsTo s n bad number n' t = (number ≡ 19) × (n' ≡ n) × (t ≡ s)
+
+-- the number of a call's reply, or that of the refusal where no call stands
+abbrev pub number_made : Result Called Refusal → ℕ
+number_made (Ok k) = number_of k.reply
+number_made (Err x) = refusal_number x
+
+-- the counts after it
+abbrev pub counts_made : Counts → Result Called Refusal → List ℕ → Counts
+counts_made n (Ok k) numbers = counted_by n k.evicts k.reply numbers
+counts_made n (Err x) numbers = n
+
+module _ (q : Quarantine) (bs : Bytes) (numbers hashes : List ℕ) (numbers' hashes' : List ℕ) (long-numbers : length numbers ≡ 1216) (long-hashes : length hashes ≡ 4096) where
+  pub leads-to : (read : ReadCall) (n : Counts) (call : Result Called Refusal) (store : Quarantine) →
+      Makes long q bs read numbers hashes (record { call = call; store = store }) numbers' hashes' →
+      LeadsTo (view_of q) n read (number_made call) (counts_made n call numbers') (view_of store)
+  leads-to (got c rest) n (Ok k) store m =
+      call-leads q bs numbers hashes (got c rest) k store numbers' hashes' long-numbers long-hashes (record { c = c; rest = rest; is = refl; made = m }) n
+  leads-to (got c rest) n (Err x) store m = absurd m
+  leads-to cut_short n call store m =
+      (ap (λ (s : Made). number_made s.call) m.0, ap (λ (s : Made). counts_made n s.call numbers') m.0, ap (λ (s : Made). view_of s.store) m.0)
+  leads-to bad n call store m =
+      (ap (λ (s : Made). number_made s.call) m.0, ap (λ (s : Made). counts_made n s.call numbers') m.0, ap (λ (s : Made). view_of s.store) m.0)
 
 -- ---- the counts
 

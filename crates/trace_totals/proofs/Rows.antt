@@ -41,7 +41,7 @@ module _ (rows : List ℕ) (width n : ℕ) where
   pub every_one : (count i : ℕ) → Counted count i → n ≤ i → (count ≡ rescue_rows width n rows) × (count ≤ n)
   unfolding keep
   every_one count i c h =
-      let None : from i ≡ 0 = rw (drop_of_length-le (chunks width n rows) {i = i} (omega (arith, chunks-length width n rows))) in
+      let none : from i ≡ 0 = rw (drop_of_length-le (chunks width n rows) {i = i} (omega (arith, chunks-length width n rows))) in
       (omega (arith, c.all), omega (arith, c.few, c.within))
 
   module _ (i : ℕ) (wide : 2 ≤ width) (h : i < n) where

@@ -7,7 +7,7 @@ use Rattle.lists.proofs.Parts.{part-rest}
 use Rattle.gap_quarantine.specs.Promises.{view_of}
 use Rattle.trace_format.specs.Reading.{read_call}
 use Rattle.trace_run.specs.Promises.{numbers_listed}
-use Rattle.trace_run.proofs.Calling.{IsRead, is-read, not_read, leads-to, list-fits, few-after, few-below}
+use Rattle.trace_run.proofs.Calling.{IsRead, is-read, not_read, call-leads, list-fits, few-after, few-below}
 use Rattle.trace_run.proofs.Running.{one_more, Going, begins, ran, done, stops, goes}
 use Rattle.trace_run.proofs.run_calls.Goals as goal
 use Rattle.trace_run.proofs.run_calls.Goals.{In-loop-at, In-Ok, After-counts_after-counts}
@@ -38,7 +38,7 @@ going : (c : After-counts_after-counts) → c.loop-at.count < length c.loop-at.l
     × Going c.args.trace.now c.args.lines.now (view_of c.make_call-made.result.store) c.counts_after-counts.result (set c.loop-at.lines c.loop-at.count c.number_of.result) (c.loop-at.count + 1) (c.loop-at.at + c.in-Ok.called.size)
 going c there fits r =
     let l = c.loop-at in
-    let lead = leads-to l.q _ _ _ _ _ _ _ _ l.invariant.1 l.invariant.2 r l.counts in
+    let lead = call-leads l.q _ _ _ _ _ _ _ _ l.invariant.1 l.invariant.2 r l.counts in
     goes c.args.trace.now c.args.lines.now (view_of l.q) l.counts l.lines l.count l.at l.invariant.0 c.loop-at-test.true c.number_of.result c.counts_after-counts.result (view_of c.make_call-made.result.store)
     r.c r.rest r.is _ r.made.size (c.number_of.ensures ∙ lead.0) (c.counts_after-counts.ensures ∙ lead.1) lead.2
     (rw c.counts_after-counts.ensures (few-after l.counts l.count l.invariant.0.sums _ c.in-Ok.called.reply _ fits)) there
